@@ -1,0 +1,6 @@
+pub mod Numbers
+pub mod Book
+pub mod Disks
+pub mod Plain
+pub mod Promise
+pub mod Two
