@@ -19,14 +19,14 @@ abbrev pub recovery-writes : View → List (On Put)
 recovery-writes d = resync 0 (source d) d ++ mirrored (length d) (recovery (source d))
 
 abbrev pub register : list.Program Put
-register = record
-  { makes = λ k n. mirrored k (blank-puts 0 (n + first-page))
-  ; mends = recovery-writes
-  ; starts = λ l d. []
-  ; says = λ l m d c. answer l (book-of (source d)) c
-  ; writes = λ l m d c. mirrored (length d) (puts-of l (source d) c)
-  ; keeps = λ l m d c. []
-  }
+register = record {
+  makes = λ k n. mirrored k (blank-puts 0 (n + first-page));
+  mends = recovery-writes;
+  starts = λ l d. [];
+  says = λ l m d c. answer l (book-of (source d)) c;
+  writes = λ l m d c. mirrored (length d) (puts-of l (source d) c);
+  keeps = λ l m d c. [];
+}
 
 -- two disks with names as a list of two
 abbrev pub listed-disks : two.Disks → View
@@ -41,11 +41,11 @@ as-writes (x ∷ xs) = as-write x ∷ as-writes xs
 
 -- a program over a list of disks as one over two
 abbrev pub for-two : list.Program Put → two.Program
-for-two f = record
-  { makes = λ n. as-writes (f .makes copies n)
-  ; mends = λ d. as-writes (f .mends (listed-disks d))
-  ; starts = λ l d. f .starts l (listed-disks d)
-  ; says = λ l m d c. f .says l m (listed-disks d) c
-  ; writes = λ l m d c. as-writes (f .writes l m (listed-disks d) c)
-  ; keeps = λ l m d c. f .keeps l m (listed-disks d) c
-  }
+for-two f = record {
+  makes = λ n. as-writes (f .makes copies n);
+  mends = λ d. as-writes (f .mends (listed-disks d));
+  starts = λ l d. f .starts l (listed-disks d);
+  says = λ l m d c. f .says l m (listed-disks d) c;
+  writes = λ l m d c. as-writes (f .writes l m (listed-disks d) c);
+  keeps = λ l m d c. f .keeps l m (listed-disks d) c;
+}

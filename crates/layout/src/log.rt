@@ -39,7 +39,10 @@ impl Log {
         ensures count { λ r. ⌜ r .count ≡ log-count (now (header .entry)) (now (list .entry)) pages ⌝ }
     {
         if !is_sane(header, list, pages) {
-            return Log { holds: false, count: 0 };
+            return Log {
+                holds: false,
+                count: 0,
+            };
         }
         Log {
             holds: flag_of(header) == 1,

@@ -41,13 +41,13 @@ good-page p = eqb (length p) page-size && bytes p
 
 pub data Call : Type 0 where
   read : ℕ → Call
-  write : ℕ → Page → Call        -- holds when it is closed
-  close : Call                   -- all that was written holds from now on, or nothing of it
+  write : ℕ → Page → Call  -- holds when it is closed
+  close : Call  -- all that was written holds from now on, or nothing of it
   size : Call
-  garbled : ℕ → Call             -- bytes that are no call, and where they cease to be one
+  garbled : ℕ → Call  -- bytes that are no call, and where they cease to be one
 
 pub data Answer : Type 0 where
-  refused : ℕ → ℕ → Answer       -- the refusal's number and its place
+  refused : ℕ → ℕ → Answer  -- the refusal's number and its place
   done : Answer
   page : Page → Answer
   number : ℕ → Answer

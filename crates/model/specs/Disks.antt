@@ -95,10 +95,10 @@ pub record Under : Type 0 where
 pub record World (S I : Type 0) : Type 0 where
   pub disks : List (Disk S)
   pub memory : List ℕ
-  pub up : Bool                    -- false from when power went until recovery is done
-  pub todo : List (On I)           -- what is still to be written
-  pub under : List Under           -- none or one
-  pub past : List Happening        -- the last first
+  pub up : Bool  -- false from when power went until recovery is done
+  pub todo : List (On I)  -- what is still to be written
+  pub under : List Under  -- none or one
+  pub past : List Happening  -- the last first
 
 unfoldable pub cut : List Under → List Happening → List Happening
 cut [] hs = power-went ∷ hs
@@ -124,9 +124,14 @@ made look f l d = record { disks = d; memory = f .starts l (seen look d); up = t
 pub data Lived {S I : Type 0} (M : Medium S I) (f : Program I) (l : Limits) : World S I → Type 0 where
   new : (d : List (Disk S)) → Fit (M .fits (l .pages)) d → alive d ≡ true → Lived M f l (made (M .look) f l (wrote-all (M .step) (f .makes (length d) (l .pages)) d))
   begins : {w : World S I} (c : Call) → Lived M f l w → w .up ≡ true → w .todo ≡ [] → w .under ≡ [] →
-      Lived M f l (record { disks = w .disks; memory = w .memory; up = true; todo = f .writes l (w .memory) (seen (M .look) (w .disks)) c
-                          ; under = record { call = c; answer = f .says l (w .memory) (seen (M .look) (w .disks)) c; memory = f .keeps l (w .memory) (seen (M .look) (w .disks)) c } ∷ []
-                          ; past = w .past })
+      Lived M f l (record {
+        disks = w .disks;
+        memory = w .memory;
+        up = true;
+        todo = f .writes l (w .memory) (seen (M .look) (w .disks)) c;
+        under = record { call = c; answer = f .says l (w .memory) (seen (M .look) (w .disks)) c; memory = f .keeps l (w .memory) (seen (M .look) (w .disks)) c } ∷ [];
+        past = w .past;
+      })
   one-written : {w : World S I} (x : On I) (xs : List (On I)) → Lived M f l w → w .todo ≡ x ∷ xs →
       Lived M f l (record { disks = wrote (M .step) x (w .disks); memory = w .memory; up = w .up; todo = xs; under = w .under; past = w .past })
   answered : {w : World S I} (u : Under) → Lived M f l w → w .up ≡ true → w .todo ≡ [] → w .under ≡ u ∷ [] →

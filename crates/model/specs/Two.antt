@@ -30,8 +30,8 @@ pub record Write : Type 0 where
 abbrev pub wrote : Write → Disks → Disks
 wrote w d =
     cond (eqb (w .disk) 0)
-        (record { first = cond (d .first-lives) (set-page (d .first) (w .at) (w .block)) (d .first); second = d .second; first-lives = d .first-lives; second-lives = d .second-lives })
-        (record { first = d .first; second = cond (d .second-lives) (set-page (d .second) (w .at) (w .block)) (d .second); first-lives = d .first-lives; second-lives = d .second-lives })
+    (record { first = cond (d .first-lives) (set-page (d .first) (w .at) (w .block)) (d .first); second = d .second; first-lives = d .first-lives; second-lives = d .second-lives })
+    (record { first = d .first; second = cond (d .second-lives) (set-page (d .second) (w .at) (w .block)) (d .second); first-lives = d .first-lives; second-lives = d .second-lives })
 
 unfoldable pub wrote-all : List Write → Disks → Disks
 wrote-all [] d = d
@@ -71,19 +71,36 @@ Fit n d = (length (d .first) ≡ n + first-page) × (length (d .second) ≡ n + 
 pub data Lived (f : Program) (l : Limits) : World → Type 0 where
   new : (d : Disks) → Fit (l .pages) d → Lived f l (made f l (wrote-all (f .makes (l .pages)) d))
   begins : {w : World} (c : Call) → Lived f l w → w .up ≡ true → w .todo ≡ [] → w .under ≡ [] →
-      Lived f l (record { disks = w .disks; memory = w .memory; up = true; todo = f .writes l (w .memory) (seen (w .disks)) c
-                        ; under = record { call = c; answer = f .says l (w .memory) (seen (w .disks)) c; memory = f .keeps l (w .memory) (seen (w .disks)) c } ∷ []
-                        ; past = w .past })
+      Lived f l (record {
+        disks = w .disks;
+        memory = w .memory;
+        up = true;
+        todo = f .writes l (w .memory) (seen (w .disks)) c;
+        under = record { call = c; answer = f .says l (w .memory) (seen (w .disks)) c; memory = f .keeps l (w .memory) (seen (w .disks)) c } ∷ [];
+        past = w .past;
+      })
   one-written : {w : World} (x : Write) (xs : List Write) → Lived f l w → w .todo ≡ x ∷ xs →
       Lived f l (record { disks = wrote x (w .disks); memory = w .memory; up = w .up; todo = xs; under = w .under; past = w .past })
   answered : {w : World} (u : Under) → Lived f l w → w .up ≡ true → w .todo ≡ [] → w .under ≡ u ∷ [] →
       Lived f l (record { disks = w .disks; memory = u .memory; up = true; todo = []; under = []; past = was-told (u .call) (u .answer) ∷ w .past })
   first-dies : {w : World} → Lived f l w → w .disks .second-lives ≡ true →
-      Lived f l (record { disks = record { first = w .disks .first; second = w .disks .second; first-lives = false; second-lives = true }; memory = w .memory; up = w .up; todo = w .todo
-                        ; under = w .under; past = w .past })
+      Lived f l (record {
+        disks = record { first = w .disks .first; second = w .disks .second; first-lives = false; second-lives = true };
+        memory = w .memory;
+        up = w .up;
+        todo = w .todo;
+        under = w .under;
+        past = w .past;
+      })
   second-dies : {w : World} → Lived f l w → w .disks .first-lives ≡ true →
-      Lived f l (record { disks = record { first = w .disks .first; second = w .disks .second; first-lives = true; second-lives = false }; memory = w .memory; up = w .up; todo = w .todo
-                        ; under = w .under; past = w .past })
+      Lived f l (record {
+        disks = record { first = w .disks .first; second = w .disks .second; first-lives = true; second-lives = false };
+        memory = w .memory;
+        up = w .up;
+        todo = w .todo;
+        under = w .under;
+        past = w .past;
+      })
   power : {w : World} → Lived f l w → w .up ≡ true →
       Lived f l (record { disks = w .disks; memory = []; up = false; todo = f .mends (seen (w .disks)); under = []; past = cut (w .under) (w .past) })
   power-again : {w : World} → Lived f l w → w .up ≡ false →

@@ -1,0 +1,43 @@
+-- What a plan's steps mean, by the disk as it was when the plan was worked out. Definitions only.
+use mathlib.Core.Bool.{true, false}
+use mathlib.Core.List.{List, [], _∷_, _++_}
+use Prim.Native.Nat.{ℕ, suc, _+_, _<_, _≤_}
+use Rattle.model.specs.Numbers.{room, first-page, most-pages}
+use Rattle.model.specs.Book.{Page, empty-page, nth}
+use Rattle.model.specs.Plain.{Put}
+use Rattle.layout.specs.Header.{header-block}
+use Rattle.layout.specs.PageList.{list-with}
+use Rattle.journal.specs.Journal.{entries-from, header-put, blank-puts}
+use Rattle.journal.specs.declared.plan.Kind.{Kind}
+use Rattle.journal.specs.declared.plan.Kind.the-variants.{Header, List as Listing, Given, Logged, Empty}
+use Rattle.journal.specs.declared.plan.Step.{Step}
+use Rattle.journal.specs.declared.plan.Plan.{Plan}
+use Rattle.journal.specs.declared.plan.Plan.the-variants.{Nothing, Write, Close, Replay, Make}
+
+-- a plan that the journal works out: the log has room, and disks are not longer than they may be
+abbrev pub Fits : Plan → Type 0
+Fits Nothing = Unit {0}
+Fits (Write n p) = n < room
+Fits (Close n) = n ≤ room
+Fits (Replay n) = n ≤ room
+Fits (Make k) = k ≤ most-pages + first-page
+
+-- the bytes of a kind; given: what came with the write
+abbrev pub content : Page → List Page → Kind → Page
+content given b (Header h n) = header-block h n
+content given b (Listing i p) = list-with (nth b 1) i p
+content given b Given = given
+content given b (Logged i) = nth b (2 + i)
+content given b Empty = empty-page
+
+abbrev pub step-put : Page → List Page → Step → Put
+step-put given b s = record { block = s .block; content = content given b (s .kind) }
+
+-- all that a plan puts, in order
+abbrev pub plan-puts : Plan → Page → List Page → List Put
+plan-puts Nothing given b = []
+plan-puts (Write n p) given b =
+    header-put false (suc n) ∷ record { block = 1; content = list-with (nth b 1) n p } ∷ record { block = 2 + n; content = given } ∷ []
+plan-puts (Close n) given b = header-put true n ∷ (entries-from b 0 n ++ (header-put false 0 ∷ []))
+plan-puts (Replay n) given b = entries-from b 0 n ++ (header-put false 0 ∷ [])
+plan-puts (Make k) given b = blank-puts 0 k
