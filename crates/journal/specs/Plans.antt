@@ -22,6 +22,14 @@ Fits (Close n) = n ≤ room
 Fits (Replay n) = n ≤ room
 Fits (Make k) = k ≤ most-pages + first-page
 
+-- a kind whose place in the list is one
+abbrev pub Placed : Kind → Type 0
+Placed (Header h n) = Unit {0}
+Placed (Listing i p) = i < room
+Placed Given = Unit {0}
+Placed (Logged i) = Unit {0}
+Placed Empty = Unit {0}
+
 -- the bytes of a kind; given: what came with the write
 abbrev pub content : Page → List Page → Kind → Page
 content given b (Header h n) = header-block h n

@@ -3,9 +3,10 @@ ghost use mathlib.Core.Path.{_≡_};
 ghost use mathlib.Core.List.{List};
 ghost use lib.ListN.{length};
 ghost use Rattle.std.specs.Finite.{nth as item};
-ghost use Rattle.std.specs.Options.{mapped};
+ghost use Rattle.std.specs.Options.{Cases as BySome, mapped};
 ghost use Rattle.model.specs.Book.{Page, nth};
-ghost use Rattle.journal.specs.Plans.{Fits, step-put, plan-puts};
+ghost use Rattle.journal.specs.Plans.{Fits, Placed, content, step-put, plan-puts};
+use layout::header::Header;
 use layout::list;
 use layout::places::Layout;
 
@@ -140,4 +141,25 @@ impl Plan {
             }
         }
     }
+}
+
+// Puts the bytes of a kind into a block. Where they are to be read off a disk it puts nothing, and tells
+// which block has them.
+pub fn fill(kind: Kind, list: &[u8], given: &[u8], out: &mut [u8]) -> Option<u64>
+    requires { ⌜ length (now list) ≡ 1024 ⌝ ∗ ⌜ length (now given) ≡ 1024 ⌝ ∗ ⌜ length (now out) ≡ 1024 ⌝ ∗ ⌜ Placed kind ⌝ }
+    ensures { λ r. ⌜ ((b : List Page) → nth b 1 ≡ now (list .entry) → BySome r
+        (now (out .exit) ≡ content (now (given .entry)) b kind)
+        (λ k. (now (out .exit) ≡ now (out .entry)) × (content (now (given .entry)) b kind ≡ nth b k))) ⌝ }
+{
+    match kind {
+        Kind::Header { holds, count } => Header { holds, count }.encode(out),
+        Kind::List { place, page } => {
+            bytes::copy_block(list, out);
+            list::put_page(out, place, page);
+        }
+        Kind::Given => bytes::copy_block(given, out),
+        Kind::Logged(i) => return Some(Layout::log(i)),
+        Kind::Empty => bytes::clear(out),
+    }
+    None
 }

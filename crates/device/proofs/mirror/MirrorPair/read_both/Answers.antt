@@ -1,0 +1,15 @@
+use mathlib.Core.Path.{_≡_, subst}
+use mathlib.Core.Bool.{Bool, true, false}
+use Rattle.device.specs.Known.{Shown}
+use Rattle.device.proofs.Runs.{none-fetched, both-fetched}
+use Rattle.device.proofs.mirror.MirrorPair.read_both.Needs as need
+
+pub returns-then-not-read : need.returns-then-not-read
+returns-then-not-read g c =
+    let P : Bool → Type 0 = λ r. Shown (g .D·Device .known (c .args .self .now .first)) (g .D·Device .known (c .read .last .self)) (c .args .from) (c .read .last .out) r in
+    none-fetched (g .D·Device .known (c .args .self .now .first)) (g .D·Device .known (c .args .self .now .second)) _ (c .args .from) (c .read .last .out) (c .args .second .now) (subst P (c .if-not-read .taken) (c .read .ensures))
+
+pub returns : need.returns
+returns g c =
+    let P : Bool → Type 0 = λ r. Shown (g .D·Device .known (c .args .self .now .first)) (g .D·Device .known (c .read .last .self)) (c .args .from) (c .read .last .out) r in
+    both-fetched (g .D·Device .known (c .args .self .now .first)) (g .D·Device .known (c .args .self .now .second)) _ _ (c .args .from) (c .read .last .out) (c .read-2 .last .out) _ (subst P (c .if-not-read .left) (c .read .ensures)) (c .read-2 .ensures)
