@@ -56,7 +56,8 @@ const EMPTY_HEADER: Step = Step {
 // The i-th step of a replay: a page of the log, then the empty header.
 fn replay_step(list: &[u8], count: u32, i: u64) -> Option<Step>
     requires { ⌜ length (now list) ≡ 1024 ⌝ ∗ ⌜ Fits (Plan.Replay count) ⌝ }
-    ensures { λ r. ⌜ ((b : List Page) (given : Page) → nth b 1 ≡ now (list .entry) → mapped (step-put given b) r ≡ item (plan-puts (Plan.Replay count) given b) i) ⌝ }
+    ensures value { λ r. ⌜ ((b : List Page) (given : Page) → nth b 1 ≡ now (list .entry) → mapped (step-put given b) r ≡ item (plan-puts (Plan.Replay count) given b) i) ⌝ }
+    ensures placed { λ r. ⌜ BySome r (Unit {0}) (λ s. Placed (s .kind)) ⌝ }
 {
     if i < count as u64 {
         let entry = i as u32;
@@ -75,7 +76,8 @@ fn replay_step(list: &[u8], count: u32, i: u64) -> Option<Step>
 // The i-th step of a write.
 fn write_step(count: u32, page: u32, i: u64) -> Option<Step>
     requires { ⌜ Fits (Plan.Write count page) ⌝ }
-    ensures { λ r. ⌜ ((b : List Page) (given : Page) → mapped (step-put given b) r ≡ item (plan-puts (Plan.Write count page) given b) i) ⌝ }
+    ensures value { λ r. ⌜ ((b : List Page) (given : Page) → mapped (step-put given b) r ≡ item (plan-puts (Plan.Write count page) given b) i) ⌝ }
+    ensures placed { λ r. ⌜ BySome r (Unit {0}) (λ s. Placed (s .kind)) ⌝ }
 {
     match i {
         0 => Some(Step {
@@ -115,7 +117,8 @@ impl Plan {
     // The i-th step, by the list of the log's pages as it was when the plan was worked out.
     pub fn step(self, list: &[u8], i: u64) -> Option<Step>
         requires { ⌜ length (now list) ≡ 1024 ⌝ ∗ ⌜ Fits self ⌝ }
-        ensures { λ r. ⌜ ((b : List Page) (given : Page) → nth b 1 ≡ now (list .entry) → mapped (step-put given b) r ≡ item (plan-puts self given b) i) ⌝ }
+        ensures value { λ r. ⌜ ((b : List Page) (given : Page) → nth b 1 ≡ now (list .entry) → mapped (step-put given b) r ≡ item (plan-puts self given b) i) ⌝ }
+        ensures placed { λ r. ⌜ BySome r (Unit {0}) (λ s. Placed (s .kind)) ⌝ }
     {
         match self {
             Plan::Nothing => None,

@@ -12,14 +12,17 @@ use Rattle.journal.proofs.Steps.{entry-item, last-item, past-item}
 use Rattle.journal.proofs.plan.replay_step.Needs as need
 
 pub returns-then-i-count : need.returns-then-i-count
-returns-then-i-count c b given e =
-    let i = c .args .i in
-    let page-is = c .page .ensures ∙ ap (λ (x : Page). listed x i) (sym e) in
-    ap (λ (k : ℕ). Some (record { block = k; content = nth b (2 + i) })) (c .page-block .ensures ∙ ap (λ (k : ℕ). first-page + k) page-is)
-    ∙ sym (entry-item b (header-put false 0) (c .args .count) i (c .if-i-count .taken))
+returns-then-i-count c = record
+  { value = λ b given e.
+        let i = c .args .i in
+        let page-is = c .page .ensures ∙ ap (λ (x : Page). listed x i) (sym e) in
+        ap (λ (k : ℕ). Some (record { block = k; content = nth b (2 + i) })) (c .page-block .ensures ∙ ap (λ (k : ℕ). first-page + k) page-is)
+        ∙ sym (entry-item b (header-put false 0) (c .args .count) i (c .if-i-count .taken))
+  ; placed = tt
+  }
 
 pub returns-then-i-count-2 : need.returns-then-i-count-2
-returns-then-i-count-2 c b given e = sym (last-item b (header-put false 0) (c .args .count) (c .args .i) (c .if-i-count-2 .taken))
+returns-then-i-count-2 c = record { value = λ b given e. sym (last-item b (header-put false 0) (c .args .count) (c .args .i) (c .if-i-count-2 .taken)); placed = tt }
 
 pub returns : need.returns
-returns c b given e = sym (past-item b (header-put false 0) (c .args .count) (c .args .i) (omega arith))
+returns c = record { value = λ b given e. sym (past-item b (header-put false 0) (c .args .count) (c .args .i) (omega arith)); placed = tt }
