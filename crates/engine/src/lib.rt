@@ -1,1 +1,7 @@
-// engine
+// The register: the journal over two disks.
+//
+// A call, recovery and making each begin by working out all that they will write; that is a `Work`. Then
+// its writes are done one after the other, each block on the first disk and then on the second, and only
+// after the last is the answer told. The code is written once, for any pair of disks.
+pub mod work;
+pub mod write;
