@@ -105,21 +105,32 @@ module _ (l : Limits) where
   unfolding as-writes alive
   made-like d (x, y, o) =
       let ms : List (On Put) = mirrored copies (blank-puts 0 (l .pages + first-page)) in
-      let F : View → Type 0 = λ v. Lives (record { disks = v; memory = []; up = true; todo = []; under = []; past = [] }) in
-      ([], refl, tt
-      , subst F (sym (wrote-two-all ms d (below-mirrored copies (blank-puts 0 (l .pages + first-page))))) (list.Lived.new (listed-disks d) (x, (y, tt)) (alive-two (d .first-lives) (d .second-lives) o)))
+      let F : View → Type 0 = λ v. Lives (record { disks = v; memory = []; up = true; todo = []; under = []; past = [] }) in (
+        [],
+        refl,
+        tt,
+        subst F (sym (wrote-two-all ms d (below-mirrored copies (blank-puts 0 (l .pages + first-page))))) (list.Lived.new (listed-disks d) (x, (y, tt)) (alive-two (d .first-lives) (d .second-lives) o)),
+      )
 
   nothing-todo : (w : World) (k : Like l w) → w .todo ≡ [] → k .0 ≡ []
   nothing-todo w k t = no-writes (k .0) (sym t ∙ k .1)
 
   begun-like : (w : World) (c : Call) → Like l w → w .up ≡ true → w .todo ≡ [] → w .under ≡ [] →
-      Like l (record { disks = w .disks; memory = w .memory; up = true; todo = for-two register .writes l (w .memory) (seen (w .disks)) c
-                     ; under = record { call = c; answer = for-two register .says l (w .memory) (seen (w .disks)) c; memory = for-two register .keeps l (w .memory) (seen (w .disks)) c } ∷ []
-                     ; past = w .past })
+      Like l (record {
+        disks = w .disks;
+        memory = w .memory;
+        up = true;
+        todo = for-two register .writes l (w .memory) (seen (w .disks)) c;
+        under = record { call = c; answer = for-two register .says l (w .memory) (seen (w .disks)) c; memory = for-two register .keeps l (w .memory) (seen (w .disks)) c } ∷ [];
+        past = w .past;
+      })
   unfolding list.seen
-  begun-like w c k up todo under =
-      (register .writes l (w .memory) (listed-disks (seen (w .disks))) c, refl, below-mirrored 2 (puts-of l (source (listed-disks (seen (w .disks)))) c)
-      , list.Lived.begins c (k .3) up (nothing-todo w k todo) under)
+  begun-like w c k up todo under = (
+    register .writes l (w .memory) (listed-disks (seen (w .disks))) c,
+    refl,
+    below-mirrored 2 (puts-of l (source (listed-disks (seen (w .disks)))) c),
+    list.Lived.begins c (k .3) up (nothing-todo w k todo) under,
+  )
 
   written-like : (w : World) (x : Write) (xs : List Write) (ws : List (On Put)) → w .todo ≡ as-writes ws → Below 2 ws → Lives (as-list w ws) → w .todo ≡ x ∷ xs →
       Like l (record { disks = wrote x (w .disks); memory = w .memory; up = w .up; todo = xs; under = w .under; past = w .past })
@@ -136,7 +147,7 @@ module _ (l : Limits) where
   unfolding killed-from alive
   first-like w k h =
       let F : Bool → Type 0 =
-          λ t. Lives (record { disks = record { has = w .disks .first; lives = false } ∷ (record { has = w .disks .second; lives = t } ∷ []); memory = w .memory; up = w .up; todo = k .0; under = w .under; past = w .past }) in
+      λ t. Lives (record { disks = record { has = w .disks .first; lives = false } ∷ (record { has = w .disks .second; lives = t } ∷ []); memory = w .memory; up = w .up; todo = k .0; under = w .under; past = w .past }) in
       (k .0, k .1, k .2, subst F h (list.Lived.dies 0 (k .3) (alive-two false (w .disks .second-lives) h)))
 
   second-like : (w : World) → Like l w → w .disks .first-lives ≡ true →
@@ -144,7 +155,7 @@ module _ (l : Limits) where
   unfolding killed-from alive
   second-like w k h =
       let F : Bool → Type 0 =
-          λ t. Lives (record { disks = record { has = w .disks .first; lives = t } ∷ (record { has = w .disks .second; lives = false } ∷ []); memory = w .memory; up = w .up; todo = k .0; under = w .under; past = w .past }) in
+      λ t. Lives (record { disks = record { has = w .disks .first; lives = t } ∷ (record { has = w .disks .second; lives = false } ∷ []); memory = w .memory; up = w .up; todo = k .0; under = w .under; past = w .past }) in
       (k .0, k .1, k .2, subst F h (list.Lived.dies 1 (k .3) (alive-first (w .disks .first-lives) h)))
 
   -- each step of two is a step of the list

@@ -2,7 +2,7 @@
 -- is the journal's plan taken to the replicas, and recovery is the journal's after the replicas were made
 -- the same. So the main promise holds of it.
 use mathlib.Core.Path.{_≡_, refl, sym, ap, subst, _∙_}
-use mathlib.Core.Bool.{Bool, true, cond}
+use mathlib.Core.Bool.{Bool, true}
 use mathlib.Core.List.{List, [], _∷_}
 use Prim.Native.Nat.{ℕ, suc, _+_, _≤_}
 use lib.ListN.{length}
@@ -10,7 +10,7 @@ use Rattle.std.proofs.shelf.Tests.{cond-true}
 use Rattle.model.specs.Numbers.{first-page, most-pages}
 use Rattle.model.specs.Book.{Page, empty-page, many, Limits, Book, new-book, answer}
 use Rattle.model.specs.Disks.{Disk, wrote-all, alive, View, seen, Fallen, Fit, was-told, was-cut}
-use Rattle.model.specs.Plain.{Put, put, plain}
+use Rattle.model.specs.Plain.{put, plain}
 use Rattle.model.specs.Promise.{Right}
 use Rattle.model.proofs.Puts.{steps-puts}
 use Rattle.mirror.specs.Mirror.{mirrored, source}
@@ -47,8 +47,8 @@ pub made-blank : (n : ℕ) (d : View) → Fit (plain .fits n) d → Each (Has (m
 made-blank n d fit =
     each-mirrored put (blank-puts 0 (n + first-page)) d (Has (many (n + first-page) empty-page))
     (each-map (λ _ y. length (y .has) ≡ n + first-page) _
-      (λ i y e h. cond-true (y .lives) _ (y .has) h ∙ steps-puts (blank-puts 0 (n + first-page)) (y .has) ∙ blanked (n + first-page) (y .has) e)
-      0 d (fit-each n 0 d fit))
+    (λ i y e h. cond-true (y .lives) _ (y .has) h ∙ steps-puts (blank-puts 0 (n + first-page)) (y .has) ∙ blanked (n + first-page) (y .has) e)
+    0 d (fit-each n 0 d fit))
 
 module _ (l : Limits) (some : 1 ≤ l .pages) (bounded : l .pages ≤ most-pages) where
   abbrev o : Book
@@ -59,21 +59,21 @@ module _ (l : Limits) (some : 1 ≤ l .pages) (bounded : l .pages ≤ most-pages
       (many (l .pages + first-page) empty-page, alive-wrote-all put (register .makes (length d) (l .pages)) d ∙ al, made-blank (l .pages) d fit, blank-ready l some)
 
   pub works : Works plain register l (Allowed (l .pages)) (Recoverable l (new-book (l .pages))) (Ready l (new-book (l .pages)))
-  works = record
-    { fresh = fresh
-    ; idle = λ hs s q. ready-recoverable l o hs s q
-    ; calls = λ c hs m d r.
+  works = record {
+    fresh = fresh;
+    idle = λ hs s q. ready-recoverable l o hs s q;
+    calls = λ c hs m d r.
         let (b, al, h, q) = r in
         let e : source (seen id d) ≡ b = source-is id b 0 d al h in
         let F : List Page → Type 0 =
-            λ x. Shape put (Allowed (l .pages)) (Recoverable l o (was-cut c ∷ hs)) (Ready l o (was-told c (answer l (book-of x) c) ∷ hs)) d (mirrored (length (seen id d)) (puts-of l x c)) in
-        subst F (sym e) (agree b (puts-of l b c) al h (ap (λ n. mirrored n (puts-of l b c)) (length-seen id d)) (call-is-safe l bounded o hs b q c))
-    ; mends = λ hs gs d e todo sh f.
+        λ x. Shape put (Allowed (l .pages)) (Recoverable l o (was-cut c ∷ hs)) (Ready l o (was-told c (answer l (book-of x) c) ∷ hs)) d (mirrored (length (seen id d)) (puts-of l x c)) in
+        subst F (sym e) (agree b (puts-of l b c) al h (ap (λ n. mirrored n (puts-of l b c)) (length-seen id d)) (call-is-safe l bounded o hs b q c));
+    mends = λ hs gs d e todo sh f.
         let p : e ≡ d = fallen-same d e f in
         let F : View → Type 0 = λ x. Shape put (Allowed (l .pages)) (Recoverable l o hs) (Ready l o hs) x (recovery-writes (seen id x)) in
-        subst F (sym p) (recovery-shape recovery (Allowed (l .pages)) (Recoverable l o hs) (Ready l o gs) (Ready l o hs) (recovery-is-safe l o hs) d todo sh)
-    ; book = λ hs s p. (p .book, p .explains)
-    }
+        subst F (sym p) (recovery-shape recovery (Allowed (l .pages)) (Recoverable l o hs) (Ready l o gs) (Ready l o hs) (recovery-is-safe l o hs) d todo sh);
+    book = λ hs s p. (p .book, p .explains);
+  }
 
 -- THE MAIN PROMISE, for as many disks as there are
 pub is-right : (can : ℕ → Bool) → Right plain can register

@@ -4,7 +4,7 @@
 use mathlib.Core.Path.{_≡_, refl, sym, ap, subst, _∙_}
 use mathlib.Core.Logic.{_≢_}
 use mathlib.Core.Bool.{Bool, true, false, cond, _&&_, _||_}
-use mathlib.Core.List.{List, [], _∷_, _++_}
+use mathlib.Core.List.{List, [], _∷_}
 use Prim.Native.Nat.{ℕ, suc, _+_, _≤_, _<_}
 use native.Mathlib.Omega.{arith}
 use lib.Dec.{eqb, ltb}
@@ -49,25 +49,25 @@ pub record Ready (l : Limits) (o : Book) (hs : List Happening) (b : List Page) :
   pub shows : Shows (l .pages) book b
 
 pub ready-recoverable : (l : Limits) (o : Book) (hs : List Happening) (b : List Page) → Ready l o hs b → Recoverable l o (power-went ∷ hs) b
-ready-recoverable l o hs b r = record
-  { sound = r .shows .sound
-  ; book = dropped (r .book)
-  ; explains = gone (r .explains)
-  ; is = committed-free b (r .shows .free) ∙ r .shows .old-is
-  ; none = refl
-  ; zero-waits = refl
-  }
+ready-recoverable l o hs b r = record {
+  sound = r .shows .sound;
+  book = dropped (r .book);
+  explains = gone (r .explains);
+  is = committed-free b (r .shows .free) ∙ r .shows .old-is;
+  none = refl;
+  zero-waits = refl;
+}
 
 -- an emptied header
 emptied-shows : (n : ℕ) (k : Book) (b : List Page) → k .new ≡ k .old → k .waiting ≡ 0 → Sound n b → holds b ≡ false → count b ≡ 0 → from-block first-page b ≡ k .old → Shows n k b
 unfolding entries-from puts
-emptied-shows n k b e z s h c f = record
-  { sound = s
-  ; free = h
-  ; waits = c ∙ sym z
-  ; old-is = f
-  ; new-is = ap (λ (x : ℕ). from-block first-page (puts (entries-from b 0 x) b)) c ∙ f ∙ sym e
-  }
+emptied-shows n k b e z s h c f = record {
+  sound = s;
+  free = h;
+  waits = c ∙ sym z;
+  old-is = f;
+  new-is = ap (λ (x : ℕ). from-block first-page (puts (entries-from b 0 x) b)) c ∙ f ∙ sym e;
+}
 
 -- recovery
 pub recovery-is-safe : (l : Limits) (o : Book) (hs : List Happening) (b : List Page) → Recoverable l o hs b →
@@ -82,13 +82,13 @@ recovery-is-safe l o hs b d =
 blank-sound : (n : ℕ) → 1 ≤ n → Sound n (many (n + first-page) empty-page)
 blank-sound n h =
     let z : (j : ℕ) → nth (many (n + first-page) empty-page) j ≡ empty-page = nth-many (n + first-page) in
-    record
-      { long = length-many (n + first-page) empty-page
-      ; good = λ j. subst (λ (x : Page). good-page x ≡ true) (sym (z j)) good-empty
-      ; flag = subst (λ (x : Page). flag-in x ≤ 1) (sym (z 0)) (omega (arith, flag-empty))
-      ; few = subst (λ (x : Page). count-in x ≤ room) (sym (z 0)) (omega (arith, count-empty))
-      ; inside = subst (λ (x : Page). (i : ℕ) → i < room → listed x i < n) (sym (z 1)) (λ i q. subst (λ (k : ℕ). k < n) (sym (listed-empty i)) h)
-      }
+    record {
+      long = length-many (n + first-page) empty-page;
+      good = λ j. subst (λ (x : Page). good-page x ≡ true) (sym (z j)) good-empty;
+      flag = subst (λ (x : Page). flag-in x ≤ 1) (sym (z 0)) (omega (arith, flag-empty));
+      few = subst (λ (x : Page). count-in x ≤ room) (sym (z 0)) (omega (arith, count-empty));
+      inside = subst (λ (x : Page). (i : ℕ) → i < room → listed x i < n) (sym (z 1)) (λ i q. subst (λ (k : ℕ). k < n) (sym (listed-empty i)) h);
+    }
 
 pub blank-ready : (l : Limits) → 1 ≤ l .pages → Ready l (new-book (l .pages)) [] (many (l .pages + first-page) empty-page)
 blank-ready l h =
@@ -160,9 +160,10 @@ module _ (l : Limits) (bounded : l .pages ≤ most-pages) (o : Book) (hs : List 
   Call-safe c ms = Safely put (Allowed (l .pages)) (Recoverable l o (was-cut c ∷ hs)) (Ready l o (was-told c (answer l (book-of b) c) ∷ hs)) b ms
 
   changes-nothing : (c : Call) → after l k c ≡ k → Call-safe c []
-  changes-nothing c e =
-      (cut-before c b (r .shows .sound) here
-      , record { book = after l k c; explains = told-on c; shows = subst (λ (x : Book). Shows (l .pages) x b) (sym e) (r .shows) })
+  changes-nothing c e = (
+    cut-before c b (r .shows .sound) here,
+    record { book = after l k c; explains = told-on c; shows = subst (λ (x : Book). Shows (l .pages) x b) (sym e) (r .shows) },
+  )
 
   close-is-safe : after l k close ≡ record { old = k .new; new = k .new; waiting = 0 } → Call-safe close (call-puts b close)
   unfolding call-puts
@@ -177,19 +178,20 @@ module _ (l : Limits) (bounded : l .pages ≤ most-pages) (o : Book) (hs : List 
       let s′ : Sound n b′ = header-sound n b s true (count b) few in
       let h′ : holds b′ ≡ true = header-holds n b s true (count b) few in
       let es : entries b′ ≡ entries b =
-          ap (entries-from b′ 0) (header-count n b s true (count b) few)
-          ∙ entries-same b′ b 0 (count b)
-              (λ j q. ap (λ x. listed x j) (header-other n b s true (count b) few 1 (omega arith)))
-              (λ j q. header-other n b s true (count b) few (2 + j) (omega arith)) in
+      ap (entries-from b′ 0) (header-count n b s true (count b) few)
+      ∙ entries-same b′ b 0 (count b)
+      (λ j q. ap (λ x. listed x j) (header-other n b s true (count b) few 1 (omega arith)))
+      (λ j q. header-other n b s true (count b) few (2 + j) (omega arith)) in
       let f : from-block first-page (puts (entries b) b′) ≡ after l k close .old =
-          puts-from (entries b) b′ b (entries-high b 0 (count b)) (header-from n b s true (count b) few) ∙ r .shows .new-is ∙ sym ol in
-      let c : committed b′ ≡ after l k close .old = committed-held b′ h′ ∙ ap (λ x. from-block first-page (puts x b′)) es ∙ f in
-      (cut-before close b s here
-      , ((omega arith, good-header true (count b)), λ h _. absurd (omega arith))
-      , replayed n (Recoverable l o (was-cut close ∷ hs)) (Ready l o (was-told close (answer l (book-of b) close) ∷ hs)) (after l k close .old)
-          (cut-after close)
-          (λ x sx hx zx fx. record { book = after l k close; explains = told-on close; shows = emptied-shows n (after l k close) x w z sx hx zx fx })
-          (entries b) b′ s′ h′ (subst (Within (entries b)) (sym es) (within-all (entries b))) c f)
+      puts-from (entries b) b′ b (entries-high b 0 (count b)) (header-from n b s true (count b) few) ∙ r .shows .new-is ∙ sym ol in
+      let c : committed b′ ≡ after l k close .old = committed-held b′ h′ ∙ ap (λ x. from-block first-page (puts x b′)) es ∙ f in (
+        cut-before close b s here,
+        ((omega arith, good-header true (count b)), λ h _. absurd (omega arith)),
+        replayed n (Recoverable l o (was-cut close ∷ hs)) (Ready l o (was-told close (answer l (book-of b) close) ∷ hs)) (after l k close .old)
+            (cut-after close)
+            (λ x sx hx zx fx. record { book = after l k close; explains = told-on close; shows = emptied-shows n (after l k close) x w z sx hx zx fx })
+            (entries b) b′ s′ h′ (subst (Within (entries b)) (sym es) (within-all (entries b))) c f,
+      )
 
   write-is-safe : (a : ℕ) (p : Page) → a < l .pages → count b < room → good-page p ≡ true → after l k (write a p) ≡ record { old = k .old; new = set-page (k .new) a p; waiting = suc (k .waiting) } →
       Call-safe (write a p) (call-puts b (write a p))
@@ -199,25 +201,33 @@ module _ (l : Limits) (bounded : l .pages ≤ most-pages) (o : Book) (hs : List 
       let s : Sound n b = r .shows .sound in
       let small : a < 4294967296 = omega arith in
       let cut-on : (x : List Page) → Sound n x → holds x ≡ false → from-block first-page x ≡ from-block first-page b → Recoverable l o (was-cut (write a p) ∷ hs) x =
-          λ x sx hx fx. cut-before (write a p) x sx (committed-free x hx ∙ fx ∙ r .shows .old-is) in
-      (cut-before (write a p) b s here, ((omega arith, good-header false (suc (count b))), λ h _. absurd (omega arith))
-      , (cut-on _ (sound₁ n b s hc a ha small p hp) (holds₁ n b s hc a ha small p hp) (from₁ n b s hc a ha small p hp)
-      , ((omega arith, good-list n b s hc a ha small p hp), λ _ _. holds₁ n b s hc a ha small p hp)
-      , (cut-on _ (sound₂ n b s hc a ha small p hp) (holds₂ n b s hc a ha small p hp) (from₂ n b s hc a ha small p hp)
-      , ((omega arith, hp), λ _ _. holds₂ n b s hc a ha small p hp)
-      , (cut-on _ (sound₃ n b s hc a ha small p hp) (holds₃ n b s hc a ha small p hp) (from₃ n b s hc a ha small p hp)
-      , record
-          { book = after l k (write a p)
-          ; explains = told-on (write a p)
-          ; shows = subst (λ (x : Book). Shows n x (b₃ n b s hc a ha small p hp)) (sym e)
-              (record
-                { sound = sound₃ n b s hc a ha small p hp
-                ; free = holds₃ n b s hc a ha small p hp
-                ; waits = count₃ n b s hc a ha small p hp ∙ ap suc (r .shows .waits)
-                ; old-is = from₃ n b s hc a ha small p hp ∙ r .shows .old-is
-                ; new-is = new₃ n b s hc a ha small p hp ∙ ap (λ x. set-page x a p) (r .shows .new-is)
-                })
-          }))))
+      λ x sx hx fx. cut-before (write a p) x sx (committed-free x hx ∙ fx ∙ r .shows .old-is) in (
+        cut-before (write a p) b s here,
+        ((omega arith, good-header false (suc (count b))), λ h _. absurd (omega arith)),
+        (
+          cut-on _ (sound₁ n b s hc a ha small p hp) (holds₁ n b s hc a ha small p hp) (from₁ n b s hc a ha small p hp),
+          ((omega arith, good-list n b s hc a ha small p hp), λ _ _. holds₁ n b s hc a ha small p hp),
+          (
+            cut-on _ (sound₂ n b s hc a ha small p hp) (holds₂ n b s hc a ha small p hp) (from₂ n b s hc a ha small p hp),
+            ((omega arith, hp), λ _ _. holds₂ n b s hc a ha small p hp),
+            (
+              cut-on _ (sound₃ n b s hc a ha small p hp) (holds₃ n b s hc a ha small p hp) (from₃ n b s hc a ha small p hp),
+              record {
+                book = after l k (write a p);
+                explains = told-on (write a p);
+                shows = subst (λ (x : Book). Shows n x (b₃ n b s hc a ha small p hp)) (sym e)
+                    (record {
+                      sound = sound₃ n b s hc a ha small p hp;
+                      free = holds₃ n b s hc a ha small p hp;
+                      waits = count₃ n b s hc a ha small p hp ∙ ap suc (r .shows .waits);
+                      old-is = from₃ n b s hc a ha small p hp ∙ r .shows .old-is;
+                      new-is = new₃ n b s hc a ha small p hp ∙ ap (λ x. set-page x a p) (r .shows .new-is);
+                    });
+              },
+            ),
+          ),
+        ),
+      )
 
   taken-is-safe : (c : Call) → turned l (book-of b) c ≡ 0 → after l k c ≡ changed k c → Call-safe c (call-puts b c)
   unfolding call-puts changed
@@ -233,6 +243,7 @@ module _ (l : Limits) (bounded : l .pages ≤ most-pages) (o : Book) (hs : List 
     where
       same : turned l k c ≡ turned l (book-of b) c
       same = turned-same l k (book-of b) c (sym (r .shows .waits))
+
       go : (t : Bool) → eqb (turned l (book-of b) c) 0 ≡ t → Call-safe c (puts-of l b c)
       go true e =
           subst (Call-safe c) (sym (cond-true _ (call-puts b c) [] e))

@@ -139,13 +139,13 @@ fits-in n b i (suc c) m s h (inr x) = fits-in n b (suc i) c m s (omega arith) x
 
 -- a put among the pages
 pub high-sound : (n : ℕ) (m : Put) (b : List Page) → Fits n m → High m → Sound n b → Sound n (put m b)
-high-sound n m b fits h s = record
-  { long = length-set-page b (m .block) (m .content) ∙ s .long
-  ; good = good-set b (m .block) (m .content) (fits .1) (s .good)
-  ; flag = rw (high-low m b h 0 (omega arith)) (s .flag)
-  ; few = rw (high-low m b h 0 (omega arith)) (s .few)
-  ; inside = rw (high-low m b h 1 (omega arith)) (s .inside)
-  }
+high-sound n m b fits h s = record {
+  long = length-set-page b (m .block) (m .content) ∙ s .long;
+  good = good-set b (m .block) (m .content) (fits .1) (s .good);
+  flag = rw (high-low m b h 0 (omega arith)) (s .flag);
+  few = rw (high-low m b h 0 (omega arith)) (s .few);
+  inside = rw (high-low m b h 1 (omega arith)) (s .inside);
+}
 
 -- one write of the log goes to its page, for the first time or again
 module _ (n : ℕ) (b : List Page) (m : Put) (s : Sound n b) (i : In m (entries b)) where
@@ -186,13 +186,13 @@ module _ (n : ℕ) (b : List Page) (s : Sound n b) (t : Bool) (c : ℕ) (l : c �
   header-count-in = ap count-in header-there ∙ count-header t c (omega arith)
 
   pub header-sound : Sound n (put (header-put t c) b)
-  header-sound = record
-    { long = length-set-page b 0 (header-block t c) ∙ s .long
-    ; good = good-set b 0 (header-block t c) (good-header t c) (s .good)
-    ; flag = subst (λ (x : Page). flag-in x ≤ 1) (sym header-there) (flag-header t c)
-    ; few = subst (λ (k : ℕ). k ≤ room) (sym header-count-in) l
-    ; inside = subst (λ (x : Page). (i : ℕ) → i < room → listed x i < n) (sym (header-other 1 (omega arith))) (s .inside)
-    }
+  header-sound = record {
+    long = length-set-page b 0 (header-block t c) ∙ s .long;
+    good = good-set b 0 (header-block t c) (good-header t c) (s .good);
+    flag = subst (λ (x : Page). flag-in x ≤ 1) (sym header-there) (flag-header t c);
+    few = subst (λ (k : ℕ). k ≤ room) (sym header-count-in) l;
+    inside = subst (λ (x : Page). (i : ℕ) → i < room → listed x i < n) (sym (header-other 1 (omega arith))) (s .inside);
+  }
 
   pub header-holds : holds (put (header-put t c) b) ≡ t
   header-holds = holds-is n (put (header-put t c) b) header-sound ∙ ap holds-in header-there ∙ holds-header t c
@@ -216,11 +216,12 @@ module _ (n : ℕ) (P Q : List Page → Type 0) (X : List Page)
       Safely put (Allowed n) P Q b (ms ++ (header-put false 0 ∷ []))
   unfolding puts
   replayed [] b s h w c f = emptied b s c f
-  replayed (m ∷ ms) b s h w c f =
-      (good b s c
-      , (entry-fits n b m s (w .0), λ _ q. absurd (omega (arith, entry-high n b m s (w .0) .1)))
-      , replayed ms (put m b) (replayed-sound n b m s (w .0)) (replayed-holds n b m s (w .0) ∙ h) (subst (Within ms) (sym (replayed-entries n b m s (w .0))) (w .1))
-          (replayed-committed n b m s (w .0) h ∙ c) f)
+  replayed (m ∷ ms) b s h w c f = (
+    good b s c,
+    (entry-fits n b m s (w .0), λ _ q. absurd (omega (arith, entry-high n b m s (w .0) .1))),
+    replayed ms (put m b) (replayed-sound n b m s (w .0)) (replayed-holds n b m s (w .0) ∙ h) (subst (Within ms) (sym (replayed-entries n b m s (w .0))) (w .1))
+        (replayed-committed n b m s (w .0) h ∙ c) f,
+  )
 
   recovers-held : (b : List Page) → Sound n b → holds b ≡ true → committed b ≡ X → Safely put (Allowed n) P Q b (recovery b)
   recovers-held b s h c =

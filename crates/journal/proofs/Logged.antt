@@ -12,7 +12,7 @@ use lib.ListN.{length}
 use Rattle.std.proofs.shelf.Tests.{cases-eq}
 use Rattle.model.specs.Numbers.{room, first-page}
 use Rattle.model.specs.Book.{Page, nth, set-page, good-page}
-use Rattle.model.specs.Plain.{Put, put, puts}
+use Rattle.model.specs.Plain.{put, puts}
 use Rattle.model.specs.Promise.{from-block}
 use Rattle.model.proofs.Lists.{length-set-page, nth-set-same, nth-set-other, from-set-below, from-set-above, good-set}
 use Rattle.model.proofs.Puts.{puts-append}
@@ -62,22 +62,22 @@ module _ (n : ℕ) (b : List Page) (s : Sound n b) (few : count b < room) (a : �
       go (inr e) = subst (λ (x : ℕ). x < n) (sym (listed-other (nth b 1) (count b) a i line few e)) (s .inside i q)
 
   pub sound₂ : Sound n b₂
-  sound₂ = record
-    { long = length-set-page b₁ 1 list′ ∙ sound₁ .long
-    ; good = good-set b₁ 1 list′ good-list (sound₁ .good)
-    ; flag = subst (λ (x : Page). flag-in x ≤ 1) (sym (other₂ 0 (omega arith))) (sound₁ .flag)
-    ; few = subst (λ (x : Page). count-in x ≤ room) (sym (other₂ 0 (omega arith))) (sound₁ .few)
-    ; inside = subst (λ (x : Page). (i : ℕ) → i < room → listed x i < n) (sym there₂) inside-list
-    }
+  sound₂ = record {
+    long = length-set-page b₁ 1 list′ ∙ sound₁ .long;
+    good = good-set b₁ 1 list′ good-list (sound₁ .good);
+    flag = subst (λ (x : Page). flag-in x ≤ 1) (sym (other₂ 0 (omega arith))) (sound₁ .flag);
+    few = subst (λ (x : Page). count-in x ≤ room) (sym (other₂ 0 (omega arith))) (sound₁ .few);
+    inside = subst (λ (x : Page). (i : ℕ) → i < room → listed x i < n) (sym there₂) inside-list;
+  }
 
   pub sound₃ : Sound n b₃
-  sound₃ = record
-    { long = length-set-page b₂ (2 + count b) p ∙ sound₂ .long
-    ; good = good-set b₂ (2 + count b) p good (sound₂ .good)
-    ; flag = subst (λ (x : Page). flag-in x ≤ 1) (sym (other₃ 0 (omega arith))) (sound₂ .flag)
-    ; few = subst (λ (x : Page). count-in x ≤ room) (sym (other₃ 0 (omega arith))) (sound₂ .few)
-    ; inside = subst (λ (x : Page). (i : ℕ) → i < room → listed x i < n) (sym (other₃ 1 (omega arith))) (sound₂ .inside)
-    }
+  sound₃ = record {
+    long = length-set-page b₂ (2 + count b) p ∙ sound₂ .long;
+    good = good-set b₂ (2 + count b) p good (sound₂ .good);
+    flag = subst (λ (x : Page). flag-in x ≤ 1) (sym (other₃ 0 (omega arith))) (sound₂ .flag);
+    few = subst (λ (x : Page). count-in x ≤ room) (sym (other₃ 0 (omega arith))) (sound₂ .few);
+    inside = subst (λ (x : Page). (i : ℕ) → i < room → listed x i < n) (sym (other₃ 1 (omega arith))) (sound₂ .inside);
+  }
 
   pub holds₁ : holds b₁ ≡ false
   holds₁ = header-holds n b s false (suc (count b)) few

@@ -3,17 +3,17 @@
 -- book is read as it was written; an empty block is such a header.
 use mathlib.Core.Path.{_≡_, refl, ap, _∙_}
 use mathlib.Core.Logic.{_⊎_, inl, inr, _≢_}
-use mathlib.Core.Bool.{Bool, true, false, cond, _&&_}
+use mathlib.Core.Bool.{Bool, true, false, cond}
 use mathlib.Core.List.{List, [], _∷_, _++_}
 use Prim.Native.Nat.{ℕ, zero, suc, _+_, _*_, _/_, _%_, _≤_, _<_}
 use native.Mathlib.Omega.{arith}
-use lib.Dec.{eqb, ltb, leb}
-use lib.ListN.{length, getD, take, drop, length-append}
-use Rattle.std.proofs.shelf.Tests.{eq-eqb, eqb-true, lt-ltb, ltb-true, le-leb, leb-true, and-parts, and-from, cond-true, cases-bool, cases-order}
+use lib.Dec.{eqb, ltb}
+use lib.ListN.{length, take, drop}
+use Rattle.std.proofs.shelf.Tests.{eq-eqb, eqb-true, lt-ltb, le-leb, and-parts, and-from, cond-true, cases-order}
 use Rattle.model.specs.Numbers.{page-size, room}
 use Rattle.model.specs.Book.{Page, empty-page, many, bytes, good-page}
 use Rattle.model.proofs.Lists.{length-many, getD-many}
-use Rattle.bytes.specs.Words.{le4, num4, overwritten}
+use Rattle.bytes.specs.Words.{le4}
 use Rattle.bytes.proofs.Parts.{length-overwritten, num4-le4, num4-written-same, num4-written-other}
 use Rattle.layout.specs.Header.{header-block, flag-in, holds-in, count-in}
 use Rattle.layout.specs.PageList.{listed, list-with, listed-below}

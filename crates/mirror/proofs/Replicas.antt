@@ -86,6 +86,7 @@ module _ {S I : Type 0} (step : I → S → S) (G : S → I → Type 0) (P Q : S
           low : y .lives ≡ true → (i < j) ⊎ (j ≤ i) → i < suc k → y .has ≡ step x s
           low h (inl q) p = c h .0 q
           low h (inr q) p = elim (c h .1 q .1) [ inl z ↦ absurd (e z) | inr z ↦ absurd (omega (arith, ascending-above (suc k) i is asc z)) ]
+
           high : y .lives ≡ true → suc k ≤ i → Among i (k ∷ is) → Among i is
           high h p (inl z) = absurd (e z)
           high h p (inr z) = z
@@ -99,8 +100,8 @@ module _ {S I : Type 0} (step : I → S → S) (G : S → I → Type 0) (P Q : S
       let hws : ws ≡ on-each is x ++ mirrored (length d) xs = cc in
       rw hw
       (ahead s x xs (suc k) is (alive-wrote step (on k x) 0 d ∙ al) (asc .1)
-        (each-wrote step (on k x) (Ahead j (k ∷ is) s (step x s)) (Ahead (suc k) is s (step x s)) (ahead-one s x j k is (asc .0) (asc .1)) 0 d h)
-        (hws ∙ ap (λ n. on-each is x ++ mirrored n xs) (sym (length-wrote step (on k x) 0 d))) p g safe)
+      (each-wrote step (on k x) (Ahead j (k ∷ is) s (step x s)) (Ahead (suc k) is s (step x s)) (ahead-one s x j k is (asc .0) (asc .1)) 0 d h)
+      (hws ∙ ap (λ n. on-each is x ++ mirrored n xs) (sym (length-wrote step (on k x) 0 d))) p g safe)
 
   from-agree : (s : S) (xs : List I) (d : List (Disk S)) (w : On I) (ws : List (On I)) → alive d ≡ true → Each (Has s) 0 d → w ∷ ws ≡ mirrored (length d) xs →
       Safely step G P Q s xs → Shape step G P Q (wrote step w d) ws
@@ -111,7 +112,7 @@ module _ {S I : Type 0} (step : I → S → S) (G : S → I → Type 0) (P Q : S
       let up : numbers 0 (length d) ≡ 0 ∷ numbers 1 (n .0) = ap (numbers 0) (n .1) in
       let h : Each (Ahead 0 (numbers 0 (length d)) s (step x s)) 0 d = both 0 d has (among-numbers 0 d) in
       from-ahead s x xs 0 0 (numbers 1 (n .0)) d w ws al (omega arith, numbers-ascending 1 (n .0)) (subst (λ (is : List ℕ). Each (Ahead 0 is s (step x s)) 0 d) up h)
-        (e ∙ ap (λ is. on-each is x ++ mirrored (length d) xs) up) (safe .0) (safe .1) (safe .2)
+      (e ∙ ap (λ is. on-each is x ++ mirrored (length d) xs) up) (safe .0) (safe .1) (safe .2)
     where
       both : (i : ℕ) (ds : List (Disk S)) → Each (Has s) i ds → Each (λ j _. Among j (numbers 0 (length d))) i ds → Each (Ahead 0 (numbers 0 (length d)) s (step x s)) i ds
       both i [] h k = tt

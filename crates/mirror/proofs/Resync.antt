@@ -97,25 +97,35 @@ module _ (b : List Page) (m : Put) (j : ℕ) (is : List ℕ) where
       where
         low : (ks : List ℕ) → (suc i ≤ j → Ascending j ks) → (j ≤ suc i → Ascending (suc i) ks) → i ≤ j → Ascending j ks
         low ks f g h = elim (cases-lt i j) [ inl p ↦ f p | inr p ↦ ascending-less j (suc i) ks (omega arith) (g (omega arith)) ]
+
         go : (u : Bool) → y .lives ≡ u → Copied (suc i) d → Copied i (y ∷ d)
-        go false e (ks, q, f, g, cs) =
-            (ks, resync-dead (y .lives) i t (y .has) (resync (suc i) t (seen id d)) e ∙ q, low ks f g, (λ h. ascending-less i (suc i) ks (omega arith) (g (omega arith)))
-            , ((λ l. absurd (both-ways (y .lives) e l)), cs))
+        go false e (ks, q, f, g, cs) = (
+          ks,
+          resync-dead (y .lives) i t (y .has) (resync (suc i) t (seen id d)) e ∙ q,
+          low ks f g,
+          (λ h. ascending-less i (suc i) ks (omega arith) (g (omega arith))),
+          ((λ l. absurd (both-ways (y .lives) e l)), cs),
+        )
         go true e (ks, q, f, g, cs) =
-            elim (cases-lt i j)
-            [ inl p ↦
-                (ks
-                , resync-living (y .lives) i t (y .has) (resync (suc i) t (seen id d)) e ∙ rw (c .0 e .0 p, highest-same 0 t) q
-                , low ks f g
-                , (λ h. absurd (omega arith))
-                , ((λ l. ((λ _. c .0 e .0 p), (λ h. absurd (omega arith)))), cs))
-            | inr p ↦
-                (i ∷ ks
-                , resync-living (y .lives) i t (y .has) (resync (suc i) t (seen id d)) e ∙ rw (c .0 e .1 p .0, one) (ap (λ z. on i m ∷ z) q)
-                , (λ h. (p, g (omega arith)))
-                , (λ h. (omega arith, g (omega arith)))
-                , ((λ l. ((λ h. absurd (omega arith)), (λ _. (c .0 e .1 p .0, inl refl))))
-                  , each-map (Ahead j ks b t) (Ahead j (i ∷ ks) b t) (λ n z w l. ((λ h. w l .0 h), (λ h. (w l .1 h .0, inr (w l .1 h .1))))) (suc i) d cs)) ]
+            elim (cases-lt i j) [
+              | inl p ↦ (
+                ks,
+                resync-living (y .lives) i t (y .has) (resync (suc i) t (seen id d)) e ∙ rw (c .0 e .0 p, highest-same 0 t) q,
+                low ks f g,
+                (λ h. absurd (omega arith)),
+                ((λ l. ((λ _. c .0 e .0 p), (λ h. absurd (omega arith)))), cs),
+              )
+              | inr p ↦ (
+                i ∷ ks,
+                resync-living (y .lives) i t (y .has) (resync (suc i) t (seen id d)) e ∙ rw (c .0 e .1 p .0, one) (ap (λ z. on i m ∷ z) q),
+                (λ h. (p, g (omega arith))),
+                (λ h. (omega arith, g (omega arith))),
+                (
+                  (λ l. ((λ h. absurd (omega arith)), (λ _. (c .0 e .1 p .0, inl refl)))),
+                  each-map (Ahead j ks b t) (Ahead j (i ∷ ks) b t) (λ n z w l. ((λ h. w l .0 h), (λ h. (w l .1 h .0, inr (w l .1 h .1))))) (suc i) d cs,
+                ),
+              )
+            ]
 
 -- a recovery of one disk that is safe from every state that P allows, taken to the replicas
 module _ (recovery : List Page → List Put) (G : List Page → Put → Type 0) (P Q R : List Page → Type 0) (recovers : (b : List Page) → P b → Safely put G P R b (recovery b)) (d : View) where
