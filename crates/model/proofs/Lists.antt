@@ -1,15 +1,17 @@
--- Laws of lists of pages: what a page that was set leaves, what stands from a block on, and lists of
--- many equal pages.
+-- Laws of lists of pages: what a page that was set leaves, what stands from a block on, lists of many
+-- equal pages, and when two pages are the same.
 use mathlib.Core.Path.{_≡_, refl, ap}
 use mathlib.Core.Logic.{_≢_}
-use mathlib.Core.Bool.{true}
+use mathlib.Core.Bool.{true, false}
 use mathlib.Core.List.{List, [], _∷_}
 use Prim.Native.Nat.{ℕ, zero, suc, _+_, _<_}
 use native.Mathlib.Nat.{add-zero, add-suc, suc-add, zero-add}
 use native.Mathlib.Omega.{arith}
+use lib.Dec.{eqb}
 use lib.ListN.{length, getD}
+use Rattle.std.proofs.shelf.Tests.{eqb-true, eq-eqb, and-parts, and-from, both-ways}
 use Rattle.model.specs.Book.{Page, empty-page, many, nth, set-page, good-page}
-use Rattle.model.specs.Promise.{from-block}
+use Rattle.model.specs.Promise.{from-block, same-page}
 
 pub length-set-page : (b : List Page) (i : ℕ) (x : Page) → length (set-page b i x) ≡ length b
 unfolding set-page
@@ -87,3 +89,19 @@ good-set (y ∷ b) zero x g h zero = g
 good-set (y ∷ b) zero x g h (suc j) = h (suc j)
 good-set (y ∷ b) (suc i) x g h zero = h zero
 good-set (y ∷ b) (suc i) x g h (suc j) = good-set b i x g (λ k. h (suc k)) j
+
+pub same-page-refl : (x : Page) → same-page x x ≡ true
+unfolding same-page
+same-page-refl [] = refl
+same-page-refl (n ∷ x) = and-from _ _ (eq-eqb n n refl) (same-page-refl x)
+
+pub same-page-eq : (x y : Page) → same-page x y ≡ true → x ≡ y
+unfolding same-page
+same-page-eq [] [] e = refl
+same-page-eq [] (n ∷ y) e = absurd (both-ways false refl e)
+same-page-eq (n ∷ x) [] e = absurd (both-ways false refl e)
+same-page-eq (n ∷ x) (k ∷ y) e =
+    let h = and-parts (eqb n k) (same-page x y) e in
+    let p : n ≡ k = eqb-true n k (h .0) in
+    let q : x ≡ y = same-page-eq x y (h .1) in
+    cc

@@ -1,0 +1,4 @@
+pub mod Each
+pub mod Replicas
+pub mod Resync
+pub mod Landed
