@@ -17,8 +17,8 @@ use Rattle.model.specs.Two.{Disks, Write, wrote, wrote-all, seen, World, Fit, m
 use Rattle.model.specs.Two.Lived.{begins, one-written, answered, first-dies, second-dies, power, power-again, mended}
 use Rattle.mirror.specs.Mirror.{numbers, on-each, mirrored, highest, source, all-on, resync}
 use Rattle.journal.specs.Journal.{recovery, puts-of, blank-puts}
-use Rattle.engine.specs.Register.{recovery-writes, register, listed-disks, as-write, as-writes, for-two}
-use Rattle.engine.proofs.Right.{is-right}
+use Rattle.promise.specs.Register.{recovery-writes, register, listed-disks, as-write, as-writes, for-two}
+use Rattle.promise.proofs.Right.{is-right}
 
 -- items for the disks below k
 abbrev pub Below : ℕ → List (On Put) → Type 0

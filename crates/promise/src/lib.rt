@@ -5,7 +5,7 @@
 ghost use Rattle.model.specs.Plain.{plain};
 ghost use Rattle.model.specs.Promise.{Right, thin, all};
 ghost use Rattle.model.specs.Two as two;
-ghost use Rattle.engine.specs.Register.{register, for-two};
+ghost use Rattle.promise.specs.Register.{register, for-two};
 
 // The main promise: whatever happens, whenever power goes and whichever disk dies when, there is a book
 // that explains every answer. For any number of disks in a list, and for two with names; for the first

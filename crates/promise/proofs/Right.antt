@@ -22,8 +22,8 @@ use Rattle.journal.specs.Journal.{recovery, book-of, puts-of, blank-puts}
 use Rattle.journal.proofs.Log.{Allowed}
 use Rattle.journal.proofs.Calls.{Recoverable, Ready, ready-recoverable, blank-ready, recovery-is-safe, call-is-safe}
 use Rattle.journal.proofs.Blank.{blanked}
-use Rattle.engine.specs.Register.{recovery-writes, register}
-use Rattle.engine.proofs.Worlds.{Rest, Works, a-book}
+use Rattle.promise.specs.Register.{recovery-writes, register}
+use Rattle.promise.proofs.Worlds.{Rest, Works, a-book}
 
 -- power changes nothing on plain disks
 same-disk : (d e : Disk (List Page)) → e .lives ≡ d .lives → e .has ≡ d .has → e ≡ d
