@@ -14,7 +14,7 @@ use Rattle.bytes.specs.Words.{le4, num4}
 use Rattle.bytes.proofs.Parts.{num4-le4}
 use Rattle.model.specs.Book as book
 use Rattle.wire.specs.Calls.{call-of, call-bytes, Carried, Round-trip, Own-bytes, Begins, Ceases, Numbered}
-use Rattle.wire.proofs.Fields.{more-bytes, number, Four, number-below, le4-number, Field, full, short, field}
+use Rattle.wire.proofs.Fields.{more-bytes, no-bytes, bytes-more, bytes-le4, number, Four, number-below, le4-number, Field, full, short, field}
 
 -- the bytes of a write
 pub write-is : (bs t : List ℕ) (n : ℕ) → getD bs 0 0 ≡ 1 → 5 ≤ length bs → n ≡ num4 bs 1 → t ≡ drop 5 bs → book.write n t ≡ call-of bs
@@ -24,10 +24,11 @@ write-is bs t n k l e f =
     simp (a, b, k, e, f)
 
 pub round-trip : Round-trip
-round-trip (book.read p) h = ap book.read (num4-le4 p h)
-round-trip (book.write p bs) (h, g) = sym (write-is (call-bytes (book.write p bs)) bs p refl (omega arith) (sym (num4-le4 p h)) refl)
-round-trip book.close h = refl
-round-trip book.size h = refl
+round-trip (book.read p) h = (bytes-more 0 _ (omega arith) (bytes-le4 p [] no-bytes), ap book.read (num4-le4 p h))
+round-trip (book.write p bs) (h, g) =
+    (bytes-more 1 _ (omega arith) (bytes-le4 p bs g), sym (write-is (call-bytes (book.write p bs)) bs p refl (omega arith) (sym (num4-le4 p h)) refl))
+round-trip book.close h = (bytes-more 2 [] (omega arith) no-bytes, refl)
+round-trip book.size h = (bytes-more 3 [] (omega arith) no-bytes, refl)
 round-trip (book.garbled k) h = elim h [ ]
 
 pub numbered : Numbered
@@ -101,8 +102,7 @@ parsed-read _ (full a b c d (e ∷ t) f h) =
     (λ l (k, u, g, q). let z = follow k g 0 (a ∷ (b ∷ (c ∷ (d ∷ (e ∷ u))))) q in absurd (omega (arith, z .1 refl)))
 
 parsed-write : (r : List ℕ) → Field r → Parsed (1 ∷ r) (call-of (1 ∷ r))
-unfolding book.bytes
-parsed-write r (short _ a b c d t l f e) = too-short (1 ∷ r) (short-write-is r l) (book.write (number a b c d) [], t, (number-below a b c d f, refl), write-field a b c d [] f ∙ ap (λ xs. 1 ∷ xs) (sym e))
+parsed-write r (short _ a b c d t l f e) = too-short (1 ∷ r) (short-write-is r l) (book.write (number a b c d) [], t, (number-below a b c d f, no-bytes), write-field a b c d [] f ∙ ap (λ xs. 1 ∷ xs) (sym e))
 parsed-write _ (full a b c d t f h) =
     let bs : List ℕ = 1 ∷ (a ∷ (b ∷ (c ∷ (d ∷ t)))) in
     subst (Parsed bs) (write-is bs t (number a b c d) refl (omega arith) refl refl) (whole (number-below a b c d f, h) (write-field a b c d t f))

@@ -6,7 +6,7 @@ use Prim.Native.Nat.{ℕ, zero, suc, _+_, _*_, _-_, _/_, _%_, _≤_, _<_}
 use native.Mathlib.Omega.{arith}
 use lib.Dec.{ltb}
 use lib.ListN.{length}
-use Rattle.std.proofs.shelf.Tests.{ltb-true, and-parts}
+use Rattle.std.proofs.shelf.Tests.{ltb-true, lt-ltb, and-parts, and-from}
 use Rattle.bytes.specs.Words.{le4}
 use Rattle.model.specs.Book.{bytes}
 
@@ -17,6 +17,18 @@ first-byte x xs h = ltb-true x 256 (and-parts (ltb x 256) (bytes xs) h .0)
 pub more-bytes : (x : ℕ) (xs : List ℕ) → bytes (x ∷ xs) ≡ true → bytes xs ≡ true
 unfolding bytes
 more-bytes x xs h = and-parts (ltb x 256) (bytes xs) h .1
+
+pub no-bytes : bytes [] ≡ true
+unfolding bytes
+no-bytes = refl
+
+pub bytes-more : (x : ℕ) (xs : List ℕ) → x < 256 → bytes xs ≡ true → bytes (x ∷ xs) ≡ true
+unfolding bytes
+bytes-more x xs h g = and-from (ltb x 256) (bytes xs) (lt-ltb x 256 h) g
+
+pub bytes-le4 : (n : ℕ) (xs : List ℕ) → bytes xs ≡ true → bytes (le4 n ++ xs) ≡ true
+bytes-le4 n xs h =
+    bytes-more (n % 256) _ (omega arith) (bytes-more (n / 256 % 256) _ (omega arith) (bytes-more (n / 65536 % 256) _ (omega arith) (bytes-more (n / 16777216 % 256) xs (omega arith) h)))
 
 abbrev pub number : ℕ → ℕ → ℕ → ℕ → ℕ
 number a b c d = a + b * 256 + c * 65536 + d * 16777216

@@ -63,7 +63,7 @@ Carried (book.garbled k) = ⊥
 
 -- such a call is read back as it was written
 abbrev pub Round-trip : Type 0
-Round-trip = (c : book.Call) → Carried c → call-of (call-bytes c) ≡ c
+Round-trip = (c : book.Call) → Carried c → (book.bytes (call-bytes c) ≡ true) × (call-of (call-bytes c) ≡ c)
 
 -- bytes that are a call are that call's own bytes
 abbrev pub Own-bytes : Type 0

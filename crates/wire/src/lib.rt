@@ -9,6 +9,8 @@ ghost use lib.ListN.{length, drop};
 ghost use Rattle.std.specs.Options.{Cases as BySome};
 ghost use Rattle.bytes.specs.Words.{num4};
 
+pub mod answer;
+
 pub mod call;
 
 // The number in the first four bytes, low byte first, and the bytes behind it.
