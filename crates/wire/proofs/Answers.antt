@@ -16,7 +16,9 @@ use Rattle.bytes.specs.Words.{le4, num4}
 use Rattle.bytes.proofs.Parts.{num4-le4}
 use Rattle.model.specs.Numbers.{room}
 use Rattle.model.specs.Book as book
-use Rattle.wire.specs.Answers.{known, answer-of, answer-bytes, Carried, Round-trip, Own-bytes, Refusals-known}
+use Rattle.wire.specs.declared.answer.Refusal.{Refusal}
+use Rattle.wire.specs.declared.answer.Refusal.the-variants.{NotACall, Unfit, NoSuchPage, LogFull}
+use Rattle.wire.specs.Answers.{known, answer-of, answer-bytes, refusal-number, refusal-place, Refuses, Carried, Round-trip, Own-bytes, Turned-refuses}
 use Rattle.wire.proofs.Fields.{first-byte, more-bytes, no-bytes, bytes-more, bytes-le4, number, Four, number-below, le4-number, Field, full, short, field}
 
 -- the bytes of a page
@@ -26,11 +28,28 @@ page-is bs p k l e =
     let b : eqb (length bs) 1025 ≡ true = grind (arith, tells) in
     simp (a, b, k, e)
 
-known-number : (n k : ℕ) → known n k ≡ true → n < 256
-known-number n k h = grind (arith, tells)
+-- the numbers and places that are known are those of the refusals
+refuses-known : (n k : ℕ) → Refuses n k → known n k ≡ true
+refuses-known n k (NotACall j, e, f) = rw (← e) refl
+refuses-known n k (Unfit, e, f) = rw (← e, ← f) refl
+refuses-known n k (NoSuchPage, e, f) = rw (← e, ← f) refl
+refuses-known n k (LogFull, e, f) = rw (← e, ← f) refl
+
+known-bounds : (n k : ℕ) → known n k ≡ true → (1 ≤ n) × (n ≤ 4) × (1 < n → k ≡ 0)
+known-bounds n k h = (grind (arith, tells), grind (arith, tells), λ l. grind (arith, tells))
+
+known-refuses : (n k : ℕ) → known n k ≡ true → Refuses n k
+known-refuses zero k h = absurd (omega (arith, known-bounds 0 k h .0))
+known-refuses (suc zero) k h = (NotACall k, refl, refl)
+known-refuses (suc (suc zero)) k h = (Unfit, refl, sym (known-bounds 2 k h .2 (omega arith)))
+known-refuses (suc (suc (suc zero))) k h = (NoSuchPage, refl, sym (known-bounds 3 k h .2 (omega arith)))
+known-refuses (suc (suc (suc (suc zero)))) k h = (LogFull, refl, sym (known-bounds 4 k h .2 (omega arith)))
+known-refuses (suc (suc (suc (suc (suc n))))) k h = absurd (omega (arith, known-bounds (suc (suc (suc (suc (suc n))))) k h .1))
 
 pub round-trip : Round-trip
-round-trip (book.refused n k) (h, l) = (bytes-more 0 _ (omega arith) (bytes-more n _ (known-number n k h) (bytes-le4 k [] no-bytes)), rw (num4-le4 k l, h))
+round-trip (book.refused n k) (r, l) =
+    let h = refuses-known n k r in
+    (bytes-more 0 _ (omega arith) (bytes-more n _ (omega (arith, known-bounds n k h .1)) (bytes-le4 k [] no-bytes)), rw (num4-le4 k l, h))
 round-trip book.done h = (bytes-more 1 [] (omega arith) no-bytes, refl)
 round-trip (book.page p) (h, l) = (bytes-more 2 p (omega arith) l, sym (page-is (2 ∷ p) p refl (omega arith) refl))
 round-trip (book.number n) h = (bytes-more 3 _ (omega arith) (bytes-le4 n [] no-bytes), ap (λ m. Some (book.number m)) (num4-le4 n h))
@@ -62,7 +81,7 @@ parsed-refusal n _ (full a b c d (e ∷ t) f h) = none (short-refusal-is (n ∷ 
 parsed-refusal n _ (full a b c d [] f h) = go (known n (number a b c d)) refl
   where
     go : (t : Bool) → known n (number a b c d) ≡ t → Parsed (0 ∷ (n ∷ (a ∷ (b ∷ (c ∷ (d ∷ [])))))) (answer-of (0 ∷ (n ∷ (a ∷ (b ∷ (c ∷ (d ∷ [])))))))
-    go true e = whole (book.refused n (number a b c d)) (rw e) (e, number-below a b c d f) (ap (λ xs. 0 ∷ (n ∷ xs)) (le4-number a b c d f))
+    go true e = whole (book.refused n (number a b c d)) (rw e) (known-refuses n (number a b c d) e, number-below a b c d f) (ap (λ xs. 0 ∷ (n ∷ xs)) (le4-number a b c d f))
     go false e = none (rw e)
 
 parsed-page : (r : List ℕ) → book.bytes r ≡ true → Parsed (2 ∷ r) (answer-of (2 ∷ r))
@@ -97,17 +116,17 @@ own-bytes bs a h e = go (parsed bs h)
     go (none f) = let z : _≡_ {A = ℕ} 0 1 = cc in absurd (omega arith)
 
 -- one test more that may turn a call away
-turned-away : (t : Bool) (n m k : ℕ) → (n ≡ 0) ⊎ (known n k ≡ true) → known m k ≡ true → (cond t n m ≡ 0) ⊎ (known (cond t n m) k ≡ true)
+turned-away : (t : Bool) (n m k : ℕ) → (n ≡ 0) ⊎ Refuses n k → Refuses m k → (cond t n m ≡ 0) ⊎ Refuses (cond t n m) k
 turned-away true n m k h g = h
 turned-away false n m k h g = inr g
 
-pub refusals-known : Refusals-known
+pub turned-refuses : Turned-refuses
 unfolding book.call-number book.good-fields book.turned-by book.place
-refusals-known l b (book.read a) =
-    turned-away (l .calls-can 0 && true) _ 2 0 (turned-away (ltb a (l .pages)) 0 3 0 (inl refl) refl) refl
-refusals-known l b (book.write a p) =
-    turned-away (l .calls-can 1 && book.good-page p) _ 2 0
-    (turned-away (ltb a (l .pages)) _ 3 0 (turned-away (ltb (b .waiting) room) 0 4 0 (inl refl) refl) refl) refl
-refusals-known l b book.close = turned-away (l .calls-can 2 && true) 0 2 0 (inl refl) refl
-refusals-known l b book.size = turned-away (l .calls-can 3 && true) 0 2 0 (inl refl) refl
-refusals-known l b (book.garbled k) = inr refl
+turned-refuses l b (book.read a) =
+    turned-away (l .calls-can 0 && true) _ 2 0 (turned-away (ltb a (l .pages)) 0 3 0 (inl refl) (NoSuchPage, refl, refl)) (Unfit, refl, refl)
+turned-refuses l b (book.write a p) =
+    let full = turned-away (ltb (b .waiting) room) 0 4 0 (inl refl) (LogFull, refl, refl) in
+    turned-away (l .calls-can 1 && book.good-page p) _ 2 0 (turned-away (ltb a (l .pages)) _ 3 0 full (NoSuchPage, refl, refl)) (Unfit, refl, refl)
+turned-refuses l b book.close = turned-away (l .calls-can 2 && true) 0 2 0 (inl refl) (Unfit, refl, refl)
+turned-refuses l b book.size = turned-away (l .calls-can 3 && true) 0 2 0 (inl refl) (Unfit, refl, refl)
+turned-refuses l b (book.garbled k) = inr (NotACall k, refl, refl)

@@ -62,14 +62,18 @@ answer-of bs =
     (cond (eqb (getD bs 0 0) 3) (cond (eqb (length bs) 5) (Some (book.number (num4 bs 1))) None)
     None))))
 
+-- a number and a place that one of the refusals has
+abbrev pub Refuses : ℕ → ℕ → Type 0
+Refuses n k = (r : Refusal) × (refusal-number r ≡ n) × (refusal-place r ≡ k)
+
 -- answers that bytes can carry
 abbrev pub Carried : book.Answer → Type 0
-Carried (book.refused n k) = (known n k ≡ true) × (k < 4294967296)
+Carried (book.refused n k) = Refuses n k × (k < 4294967296)
 Carried book.done = Unit {0}
 Carried (book.page p) = (length p ≡ page-size) × (book.bytes p ≡ true)
 Carried (book.number n) = n < 4294967296
 
--- such an answer is read back as it was written
+-- such an answer is bytes, and is read back as it was written
 abbrev pub Round-trip : Type 0
 Round-trip = (a : book.Answer) → Carried a → (book.bytes (answer-bytes a) ≡ true) × (answer-of (answer-bytes a) ≡ Some a)
 
@@ -77,6 +81,6 @@ Round-trip = (a : book.Answer) → Carried a → (book.bytes (answer-bytes a) �
 abbrev pub Own-bytes : Type 0
 Own-bytes = (bs : List ℕ) (a : book.Answer) → book.bytes bs ≡ true → answer-of bs ≡ Some a → Carried a × (answer-bytes a ≡ bs)
 
--- what the book refuses has the number and the place of one of the refusals
-abbrev pub Refusals-known : Type 0
-Refusals-known = (l : book.Limits) (b : book.Book) (c : book.Call) → (book.turned l b c ≡ 0) ⊎ (known (book.turned l b c) (book.place c) ≡ true)
+-- a call that the book turns away gets one of the refusals
+abbrev pub Turned-refuses : Type 0
+Turned-refuses = (l : book.Limits) (b : book.Book) (c : book.Call) → (book.turned l b c ≡ 0) ⊎ Refuses (book.turned l b c) (book.place c)

@@ -61,7 +61,7 @@ Carried book.close = Unit {0}
 Carried book.size = Unit {0}
 Carried (book.garbled k) = ⊥
 
--- such a call is read back as it was written
+-- such a call is bytes, and is read back as it was written
 abbrev pub Round-trip : Type 0
 Round-trip = (c : book.Call) → Carried c → (book.bytes (call-bytes c) ≡ true) × (call-of (call-bytes c) ≡ c)
 

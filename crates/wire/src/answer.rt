@@ -9,7 +9,7 @@ ghost use lib.ListN.{length};
 ghost use Rattle.std.specs.Options.{Cases as BySome};
 ghost use Rattle.bytes.specs.Words.{num4};
 ghost use Rattle.wire.specs.Encoded.{Encoded};
-ghost use Rattle.wire.specs.Answers.{refusal-number, refusal-place, known, answered, heard, answer-bytes, answer-of, Round-trip, Own-bytes, Refusals-known};
+ghost use Rattle.wire.specs.Answers.{refusal-number, refusal-place, known, answered, heard, answer-bytes, answer-of, Round-trip, Own-bytes, Turned-refuses};
 use bytes::{put_u32, BLOCK};
 
 const REFUSED: u8 = 0;
@@ -177,7 +177,7 @@ fn only_number(bytes: &[u8]) -> Option<u32>
 pub fn answers_stand() -> u8
     ensures back { λ _. ⌜ Round-trip ⌝ }
     ensures own { λ _. ⌜ Own-bytes ⌝ }
-    ensures refusals { λ _. ⌜ Refusals-known ⌝ }
+    ensures refusals { λ _. ⌜ Turned-refuses ⌝ }
 {
     0
 }
