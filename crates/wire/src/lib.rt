@@ -13,6 +13,9 @@ pub mod answer;
 
 pub mod call;
 
+#[cfg(test)]
+mod tests;
+
 // The number in the first four bytes, low byte first, and the bytes behind it.
 fn split_number(bytes: &[u8]) -> Option<(u32, &[u8])>
     ensures { λ r. ⌜ BySome r (length (now (bytes .entry)) < 4) (λ x. (4 ≤ length (now (bytes .entry))) × (x .0 ≡ num4 (now (bytes .entry)) 0) × (now (x .1) ≡ drop 4 (now (bytes .entry)))) ⌝ }
