@@ -1,0 +1,4 @@
+pub mod Fields
+pub mod Written
+pub mod Calls
+pub mod Answers

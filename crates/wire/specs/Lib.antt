@@ -1,0 +1,3 @@
+pub mod Encoded
+pub mod Calls
+pub mod Answers
