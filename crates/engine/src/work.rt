@@ -1,5 +1,7 @@
 // What a call, recovery or making will write, fixed when it begins.
-ghost use Rattle.journal.specs.Plans.{Fits};
+ghost use mathlib.Core.Path.{_≡_};
+ghost use mathlib.Core.Bool.{true};
+ghost use Rattle.journal.specs.Plans.{fits};
 use journal::plan::Plan;
 
 #[derive(Clone, Copy)]
@@ -13,5 +15,5 @@ pub struct Work {
     // The bytes that came with a write, or the block that is copied. A dead disk can't be asked for it
     // later, so it is kept here.
     pub block: [u8; 1024],
-    ghost fits: { Fits plan },
+    ghost bounded: { fits plan ≡ true },
 }

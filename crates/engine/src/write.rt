@@ -13,7 +13,7 @@ use device::mirror::Side;
 use journal::plan::Kind;
 
 // The kind of what is written.
-#[derive(Clone, Copy, PartialEq, Eq, Debug)]
+#[derive(Clone, Copy)]
 pub enum WriteKind {
     // The block in which the second disk differed, as it is on the first.
     Copied,
@@ -22,7 +22,7 @@ pub enum WriteKind {
 }
 
 // One block to write on one disk.
-#[derive(Clone, Copy, PartialEq, Eq, Debug)]
+#[derive(Clone, Copy)]
 pub struct Write {
     pub disk: Side,
     pub block: u64,

@@ -1,7 +1,8 @@
 -- What a plan's steps mean, by the disk as it was when the plan was worked out. Definitions only.
-use mathlib.Core.Bool.{true, false}
+use mathlib.Core.Bool.{Bool, true, false}
 use mathlib.Core.List.{List, [], _∷_, _++_}
-use Prim.Native.Nat.{ℕ, suc, _+_, _<_, _≤_}
+use Prim.Native.Nat.{ℕ, suc, _+_, _<_}
+use lib.Dec.{ltb, leb}
 use Rattle.model.specs.Numbers.{room, first-page, most-pages}
 use Rattle.model.specs.Book.{Page, empty-page, nth}
 use Rattle.model.specs.Plain.{Put}
@@ -15,12 +16,12 @@ use Rattle.journal.specs.declared.plan.Plan.{Plan}
 use Rattle.journal.specs.declared.plan.Plan.the-variants.{Nothing, Write, Close, Replay, Make}
 
 -- a plan that the journal works out: the log has room, and disks are not longer than they may be
-abbrev pub Fits : Plan → Type 0
-Fits Nothing = Unit {0}
-Fits (Write n p) = n < room
-Fits (Close n) = n ≤ room
-Fits (Replay n) = n ≤ room
-Fits (Make k) = k ≤ most-pages + first-page
+abbrev pub fits : Plan → Bool
+fits Nothing = true
+fits (Write n p) = ltb n room
+fits (Close n) = leb n room
+fits (Replay n) = leb n room
+fits (Make k) = leb k (most-pages + first-page)
 
 -- a kind whose place in the list is one
 abbrev pub Placed : Kind → Type 0

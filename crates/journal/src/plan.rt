@@ -1,11 +1,14 @@
 // What a call, recovery or making puts on one logical disk, step by step.
 ghost use mathlib.Core.Path.{_≡_};
+ghost use mathlib.Core.Bool.{true};
 ghost use mathlib.Core.List.{List};
+ghost use Prim.Native.Nat.{_+_, _≤_};
 ghost use lib.ListN.{length};
+ghost use Rattle.model.specs.Numbers.{first-page, most-pages};
 ghost use Rattle.std.specs.Finite.{nth as item};
 ghost use Rattle.std.specs.Options.{Cases as BySome, mapped};
 ghost use Rattle.model.specs.Book.{Page, nth};
-ghost use Rattle.journal.specs.Plans.{Fits, Placed, content, step-put, plan-puts};
+ghost use Rattle.journal.specs.Plans.{fits, Placed, content, step-put, plan-puts};
 use layout::header::Header;
 use layout::list;
 use layout::places::Layout;
@@ -55,7 +58,7 @@ const EMPTY_HEADER: Step = Step {
 
 // The i-th step of a replay: a page of the log, then the empty header.
 fn replay_step(list: &[u8], count: u32, i: u64) -> Option<Step>
-    requires { ⌜ length (now list) ≡ 1024 ⌝ ∗ ⌜ Fits (Plan.Replay count) ⌝ }
+    requires { ⌜ length (now list) ≡ 1024 ⌝ ∗ ⌜ fits (Plan.Replay count) ≡ true ⌝ }
     ensures value { λ r. ⌜ ((b : List Page) (given : Page) → nth b 1 ≡ now (list .entry) → mapped (step-put given b) r ≡ item (plan-puts (Plan.Replay count) given b) i) ⌝ }
     ensures placed { λ r. ⌜ BySome r (Unit {0}) (λ s. Placed (s .kind)) ⌝ }
 {
@@ -75,7 +78,7 @@ fn replay_step(list: &[u8], count: u32, i: u64) -> Option<Step>
 
 // The i-th step of a write.
 fn write_step(count: u32, page: u32, i: u64) -> Option<Step>
-    requires { ⌜ Fits (Plan.Write count page) ⌝ }
+    requires { ⌜ fits (Plan.Write count page) ≡ true ⌝ }
     ensures value { λ r. ⌜ ((b : List Page) (given : Page) → mapped (step-put given b) r ≡ item (plan-puts (Plan.Write count page) given b) i) ⌝ }
     ensures placed { λ r. ⌜ BySome r (Unit {0}) (λ s. Placed (s .kind)) ⌝ }
 {
@@ -102,8 +105,9 @@ fn write_step(count: u32, page: u32, i: u64) -> Option<Step>
 impl Plan {
     // How many steps there are.
     pub fn len(self) -> u64
-        requires { ⌜ Fits self ⌝ }
-        ensures { λ r. ⌜ ((b : List Page) (given : Page) → r ≡ length (plan-puts self given b)) ⌝ }
+        requires { ⌜ fits self ≡ true ⌝ }
+        ensures value { λ r. ⌜ ((b : List Page) (given : Page) → r ≡ length (plan-puts self given b)) ⌝ }
+        ensures bound { λ r. ⌜ r ≤ most-pages + first-page ⌝ }
     {
         match self {
             Plan::Nothing => 0,
@@ -116,7 +120,7 @@ impl Plan {
 
     // The i-th step, by the list of the log's pages as it was when the plan was worked out.
     pub fn step(self, list: &[u8], i: u64) -> Option<Step>
-        requires { ⌜ length (now list) ≡ 1024 ⌝ ∗ ⌜ Fits self ⌝ }
+        requires { ⌜ length (now list) ≡ 1024 ⌝ ∗ ⌜ fits self ≡ true ⌝ }
         ensures value { λ r. ⌜ ((b : List Page) (given : Page) → nth b 1 ≡ now (list .entry) → mapped (step-put given b) r ≡ item (plan-puts self given b) i) ⌝ }
         ensures placed { λ r. ⌜ BySome r (Unit {0}) (λ s. Placed (s .kind)) ⌝ }
     {

@@ -2,3 +2,4 @@ pub mod Each
 pub mod Replicas
 pub mod Resync
 pub mod Landed
+pub mod Numbered
