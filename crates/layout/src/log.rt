@@ -4,7 +4,9 @@
 // in the list. Any other header is met by total code all the same: it is read as an empty one, so that
 // every plan is bounded and stays within the disk, whatever the disks hold.
 ghost use mathlib.Core.Path.{_≡_};
+ghost use Prim.Native.Nat.{_≤_};
 ghost use lib.ListN.{length};
+ghost use Rattle.model.specs.Numbers.{room};
 ghost use Rattle.layout.specs.Reading.{sane, log-holds, log-count};
 use crate::header::count_of;
 use crate::header::flag_of;
@@ -15,8 +17,9 @@ use crate::places::Layout;
 pub struct Log {
     // A close was begun, and its pages are to be brought to their places.
     pub holds: bool,
-    // How many writes are in the log, at most Layout::ROOM.
+    // How many writes are in the log.
     pub count: u32,
+    ghost few: { count ≤ room },
 }
 
 // Whether a register with so many pages may have written this header.
