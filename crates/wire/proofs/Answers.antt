@@ -52,7 +52,7 @@ round-trip (book.refused n k) (r, l) =
     (bytes-more 0 _ (omega arith) (bytes-more n _ (omega (arith, known-bounds n k h .1)) (bytes-le4 k [] no-bytes)), rw (num4-le4 k l, h))
 round-trip book.done h = (bytes-more 1 [] (omega arith) no-bytes, refl)
 round-trip (book.page p) (h, l) = (bytes-more 2 p (omega arith) l, sym (page-is (2 ∷ p) p refl (omega arith) refl))
-round-trip (book.number n) h = (bytes-more 3 _ (omega arith) (bytes-le4 n [] no-bytes), ap (λ m. Some (book.number m)) (num4-le4 n h))
+round-trip (book.number n) h = (bytes-more 3 _ (omega arith) (bytes-le4 n [] no-bytes), ap (λ m. Some (book.number m)) (num4-le4 n (omega arith)))
 
 -- what bytes are not
 short-refusal-is : (r : List ℕ) → (length r ≡ 5 → ⊥) → answer-of (0 ∷ r) ≡ None

@@ -24,7 +24,7 @@ write-is bs t n k l e f =
     simp (a, b, k, e, f)
 
 pub round-trip : Round-trip
-round-trip (book.read p) h = (bytes-more 0 _ (omega arith) (bytes-le4 p [] no-bytes), ap book.read (num4-le4 p h))
+round-trip (book.read p) h = (bytes-more 0 _ (omega arith) (bytes-le4 p [] no-bytes), ap book.read (num4-le4 p (omega arith)))
 round-trip (book.write p bs) (h, g) =
     (bytes-more 1 _ (omega arith) (bytes-le4 p bs g), sym (write-is (call-bytes (book.write p bs)) bs p refl (omega arith) (sym (num4-le4 p h)) refl))
 round-trip book.close h = (bytes-more 2 [] (omega arith) no-bytes, refl)

@@ -10,16 +10,23 @@ ghost use Rattle.std.specs.Options.{Cases as BySome};
 ghost use Rattle.bytes.specs.Words.{num4};
 ghost use Rattle.wire.specs.Encoded.{Encoded};
 ghost use Rattle.wire.specs.Answers.{refusal-number, refusal-place, known, answered, heard, answer-bytes, answer-of, Round-trip, Own-bytes, Turned-refuses};
-use bytes::{put_u32, BLOCK};
+use bytes::BLOCK;
+use bytes::put_u32;
 
 const REFUSED: u8 = 0;
+
 const DONE: u8 = 1;
+
 const PAGE: u8 = 2;
+
 const NUMBER: u8 = 3;
 
 const NOT_A_CALL: u8 = 1;
+
 const UNFIT: u8 = 2;
+
 const NO_SUCH_PAGE: u8 = 3;
+
 const LOG_FULL: u8 = 4;
 
 // Why a call is not done.

@@ -10,9 +10,7 @@ ghost use Rattle.std.specs.Options.{Cases as BySome};
 ghost use Rattle.bytes.specs.Words.{num4};
 
 pub mod answer;
-
 pub mod call;
-
 #[cfg(test)]
 mod tests;
 
