@@ -1,16 +1,15 @@
 -- The laws of calls as bytes: a call is read back as it was written, bytes that are a call are its own, and
 -- the place where bytes cease to be a call is the end of the longest front with which some call begins.
 use mathlib.Core.Path.{_≡_, refl, sym, ap, subst, _∙_}
-use mathlib.Core.Bool.{Bool, true, false, cond}
-use mathlib.Core.Logic.{_≢_}
+use mathlib.Core.Bool.{true, false}
 use mathlib.Core.List.{List, [], _∷_, _++_}
-use Prim.Native.Nat.{ℕ, zero, suc, _+_, _*_, _-_, _/_, _%_, _≤_, _<_}
+use Prim.Native.Nat.{ℕ, zero, suc, _+_, _≤_, _<_}
 use native.Mathlib.Omega.{arith}
 use lib.Dec.{ltb, eqb}
 use lib.ListN.{length, getD, take, drop}
 use Rattle.std.proofs.shelf.Lists.{take-all}
 use Rattle.std.proofs.shelf.Ways.{tells}
-use Rattle.bytes.specs.Words.{le4, num4}
+use Rattle.bytes.specs.Words.{num4}
 use Rattle.bytes.proofs.Parts.{num4-le4}
 use Rattle.model.specs.Book as book
 use Rattle.wire.specs.Calls.{call-of, call-bytes, Carried, Round-trip, Own-bytes, Begins, Ceases, Numbered}
@@ -40,7 +39,7 @@ numbered book.size h = refl
 numbered (book.garbled k) h = elim h [ ]
 
 -- how many bytes follow a call's number
-pub follow : (c : book.Call) → Carried c → (x : ℕ) (t : List ℕ) → call-bytes c ≡ x ∷ t → (x ≤ 3) × (x ≡ 0 → length t ≡ 4) × (2 ≤ x → length t ≡ 0)
+follow : (c : book.Call) → Carried c → (x : ℕ) (t : List ℕ) → call-bytes c ≡ x ∷ t → (x ≤ 3) × (x ≡ 0 → length t ≡ 4) × (2 ≤ x → length t ≡ 0)
 follow (book.read p) h x t e =
     let a : 0 ≡ x = ap (λ l. getD l 0 0) e in
     let b : 5 ≡ suc (length t) = ap length e in

@@ -69,7 +69,9 @@ impl Refusal {
 pub enum Answer<'a> {
     Refused(Refusal),
     Done,
+    // A page as it is lent; only one of 1,024 bytes is read back.
     Page(&'a [u8]),
+    // How many pages there are.
     Number(u32),
 }
 
@@ -179,8 +181,8 @@ fn only_number(bytes: &[u8]) -> Option<u32>
     Some(u32::from_le_bytes([*a, *b, *c, *d]))
 }
 
-// Answers and bytes answer to each other: what is written is read back, and bytes that are an answer are that
-// answer's own. And the refusals are those of the book, with their numbers and places.
+// Answers and bytes fit each other: what is written is read back, and bytes that are an answer are that
+// answer's own. And what the book refuses is one of the refusals above, with its number and its place.
 pub fn answers_stand() -> u8
     ensures back { λ _. ⌜ Round-trip ⌝ }
     ensures own { λ _. ⌜ Own-bytes ⌝ }
