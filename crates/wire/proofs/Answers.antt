@@ -1,25 +1,23 @@
 -- The laws of answers as bytes: an answer is read back as it was written, bytes that are an answer are its
 -- own, and the refusals are those of the book.
-use mathlib.Core.Path.{_≡_, refl, sym, ap, subst, _∙_}
-use mathlib.Core.Bool.{Bool, true, false, cond, _&&_, _||_}
+use mathlib.Core.Path.{_≡_, refl, sym, ap, subst}
+use mathlib.Core.Bool.{Bool, true, false, cond, _&&_}
 use mathlib.Core.Logic.{_⊎_, inl, inr}
-use mathlib.Core.List.{List, [], _∷_, _++_}
-use Prim.Native.Nat.{ℕ, zero, suc, _+_, _≤_, _<_}
+use mathlib.Core.List.{List, [], _∷_}
+use Prim.Native.Nat.{ℕ, zero, suc, _≤_, _<_}
 use native.Mathlib.Omega.{arith}
-use lib.Dec.{ltb, leb, eqb}
-use lib.ListN.{length, getD, take, drop}
+use lib.Dec.{ltb, eqb}
+use lib.ListN.{length, getD, drop}
 use Rattle.std.specs.declared.option.Option.{Option}
 use Rattle.std.specs.declared.option.Option.the-variants.{Some, None}
 use Rattle.std.proofs.shelf.Tests.{cases-eq}
 use Rattle.std.proofs.shelf.Ways.{tells}
-use Rattle.bytes.specs.Words.{le4, num4}
 use Rattle.bytes.proofs.Parts.{num4-le4}
 use Rattle.model.specs.Numbers.{room}
 use Rattle.model.specs.Book as book
-use Rattle.wire.specs.declared.answer.Refusal.{Refusal}
 use Rattle.wire.specs.declared.answer.Refusal.the-variants.{NotACall, Unfit, NoSuchPage, LogFull}
-use Rattle.wire.specs.Answers.{known, answer-of, answer-bytes, refusal-number, refusal-place, Refuses, Carried, Round-trip, Own-bytes, Turned-refuses}
-use Rattle.wire.proofs.Fields.{first-byte, more-bytes, no-bytes, bytes-more, bytes-le4, number, Four, number-below, le4-number, Field, full, short, field}
+use Rattle.wire.specs.Answers.{known, answer-of, answer-bytes, Refuses, Carried, Round-trip, Own-bytes, Turned-refuses}
+use Rattle.wire.proofs.Fields.{more-bytes, no-bytes, bytes-more, bytes-le4, number, number-below, le4-number, Field, full, short, field}
 
 -- the bytes of a page
 pub page-is : (bs p : List ℕ) → getD bs 0 0 ≡ 2 → length bs ≡ 1025 → p ≡ drop 1 bs → Some (book.page p) ≡ answer-of bs
@@ -52,11 +50,11 @@ round-trip (book.refused n k) (r, l) =
     (bytes-more 0 _ (omega arith) (bytes-more n _ (omega (arith, known-bounds n k h .1)) (bytes-le4 k [] no-bytes)), rw (num4-le4 k l, h))
 round-trip book.done h = (bytes-more 1 [] (omega arith) no-bytes, refl)
 round-trip (book.page p) (h, l) = (bytes-more 2 p (omega arith) l, sym (page-is (2 ∷ p) p refl (omega arith) refl))
-round-trip (book.number n) h = (bytes-more 3 _ (omega arith) (bytes-le4 n [] no-bytes), ap (λ m. Some (book.number m)) (num4-le4 n h))
+round-trip (book.number n) h = (bytes-more 3 _ (omega arith) (bytes-le4 n [] no-bytes), ap (λ m. Some (book.number m)) (num4-le4 n (omega arith)))
 
--- what bytes are not
-short-refusal-is : (r : List ℕ) → (length r ≡ 5 → ⊥) → answer-of (0 ∷ r) ≡ None
-short-refusal-is r h = grind (arith, tells)
+-- bytes that are no answer, by their number and by how many follow
+other-refusal-is : (r : List ℕ) → (length r ≡ 5 → ⊥) → answer-of (0 ∷ r) ≡ None
+other-refusal-is r h = grind (arith, tells)
 
 long-done-is : (r : List ℕ) → 0 < length r → answer-of (1 ∷ r) ≡ None
 long-done-is r h = grind (arith, tells)
@@ -76,8 +74,8 @@ data Parsed (bs : List ℕ) (o : Option book.Answer) : Type 0 where
   none : o ≡ None → Parsed bs o
 
 parsed-refusal : (n : ℕ) (r : List ℕ) → Field r → Parsed (0 ∷ (n ∷ r)) (answer-of (0 ∷ (n ∷ r)))
-parsed-refusal n r (short _ a b c d t l f e) = none (short-refusal-is (n ∷ r) (λ q. absurd (omega arith)))
-parsed-refusal n _ (full a b c d (e ∷ t) f h) = none (short-refusal-is (n ∷ (a ∷ (b ∷ (c ∷ (d ∷ (e ∷ t)))))) (λ q. absurd (omega arith)))
+parsed-refusal n r (short _ a b c d t l f e) = none (other-refusal-is (n ∷ r) (λ q. absurd (omega arith)))
+parsed-refusal n _ (full a b c d (e ∷ t) f h) = none (other-refusal-is (n ∷ (a ∷ (b ∷ (c ∷ (d ∷ (e ∷ t)))))) (λ q. absurd (omega arith)))
 parsed-refusal n _ (full a b c d [] f h) = go (known n (number a b c d)) refl
   where
     go : (t : Bool) → known n (number a b c d) ≡ t → Parsed (0 ∷ (n ∷ (a ∷ (b ∷ (c ∷ (d ∷ [])))))) (answer-of (0 ∷ (n ∷ (a ∷ (b ∷ (c ∷ (d ∷ [])))))))

@@ -1,16 +1,15 @@
 -- The laws of calls as bytes: a call is read back as it was written, bytes that are a call are its own, and
 -- the place where bytes cease to be a call is the end of the longest front with which some call begins.
 use mathlib.Core.Path.{_≡_, refl, sym, ap, subst, _∙_}
-use mathlib.Core.Bool.{Bool, true, false, cond}
-use mathlib.Core.Logic.{_≢_}
+use mathlib.Core.Bool.{true, false}
 use mathlib.Core.List.{List, [], _∷_, _++_}
-use Prim.Native.Nat.{ℕ, zero, suc, _+_, _*_, _-_, _/_, _%_, _≤_, _<_}
+use Prim.Native.Nat.{ℕ, zero, suc, _+_, _≤_, _<_}
 use native.Mathlib.Omega.{arith}
 use lib.Dec.{ltb, eqb}
 use lib.ListN.{length, getD, take, drop}
 use Rattle.std.proofs.shelf.Lists.{take-all}
 use Rattle.std.proofs.shelf.Ways.{tells}
-use Rattle.bytes.specs.Words.{le4, num4}
+use Rattle.bytes.specs.Words.{num4}
 use Rattle.bytes.proofs.Parts.{num4-le4}
 use Rattle.model.specs.Book as book
 use Rattle.wire.specs.Calls.{call-of, call-bytes, Carried, Round-trip, Own-bytes, Begins, Ceases, Numbered}
@@ -24,7 +23,7 @@ write-is bs t n k l e f =
     simp (a, b, k, e, f)
 
 pub round-trip : Round-trip
-round-trip (book.read p) h = (bytes-more 0 _ (omega arith) (bytes-le4 p [] no-bytes), ap book.read (num4-le4 p h))
+round-trip (book.read p) h = (bytes-more 0 _ (omega arith) (bytes-le4 p [] no-bytes), ap book.read (num4-le4 p (omega arith)))
 round-trip (book.write p bs) (h, g) =
     (bytes-more 1 _ (omega arith) (bytes-le4 p bs g), sym (write-is (call-bytes (book.write p bs)) bs p refl (omega arith) (sym (num4-le4 p h)) refl))
 round-trip book.close h = (bytes-more 2 [] (omega arith) no-bytes, refl)
@@ -40,7 +39,7 @@ numbered book.size h = refl
 numbered (book.garbled k) h = elim h [ ]
 
 -- how many bytes follow a call's number
-pub follow : (c : book.Call) → Carried c → (x : ℕ) (t : List ℕ) → call-bytes c ≡ x ∷ t → (x ≤ 3) × (x ≡ 0 → length t ≡ 4) × (2 ≤ x → length t ≡ 0)
+follow : (c : book.Call) → Carried c → (x : ℕ) (t : List ℕ) → call-bytes c ≡ x ∷ t → (x ≤ 3) × (x ≡ 0 → length t ≡ 4) × (2 ≤ x → length t ≡ 0)
 follow (book.read p) h x t e =
     let a : 0 ≡ x = ap (λ l. getD l 0 0) e in
     let b : 5 ≡ suc (length t) = ap length e in

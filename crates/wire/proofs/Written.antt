@@ -7,7 +7,7 @@ use native.Mathlib.Omega.{arith}
 use lib.ListN.{length, set}
 use borrow.Rule.Slice.PartMut.{putMid}
 use Rattle.bytes.specs.Words.{le4, overwritten}
-use Rattle.bytes.proofs.Parts.{overwritten-is, written-after, set-is-written, length-overwritten}
+use Rattle.bytes.proofs.Parts.{overwritten-is, written-after, set-is-written}
 
 -- a number, a field and the rest
 pub field-and-rest-written : (xs d ys bs : List ℕ) (t p : ℕ) → d ≡ overwritten (set xs 0 t) 1 (le4 p) → ys ≡ bs → 5 + length bs ≤ length xs → putMid 5 (5 + length bs - 5) d ys ≡ overwritten xs 0 (t ∷ (le4 p ++ bs))

@@ -10,16 +10,23 @@ ghost use Rattle.std.specs.Options.{Cases as BySome};
 ghost use Rattle.bytes.specs.Words.{num4};
 ghost use Rattle.wire.specs.Encoded.{Encoded};
 ghost use Rattle.wire.specs.Answers.{refusal-number, refusal-place, known, answered, heard, answer-bytes, answer-of, Round-trip, Own-bytes, Turned-refuses};
-use bytes::{put_u32, BLOCK};
+use bytes::BLOCK;
+use bytes::put_u32;
 
 const REFUSED: u8 = 0;
+
 const DONE: u8 = 1;
+
 const PAGE: u8 = 2;
+
 const NUMBER: u8 = 3;
 
 const NOT_A_CALL: u8 = 1;
+
 const UNFIT: u8 = 2;
+
 const NO_SUCH_PAGE: u8 = 3;
+
 const LOG_FULL: u8 = 4;
 
 // Why a call is not done.
@@ -62,7 +69,9 @@ impl Refusal {
 pub enum Answer<'a> {
     Refused(Refusal),
     Done,
+    // A page as it is lent; only one of 1,024 bytes is read back.
     Page(&'a [u8]),
+    // How many pages there are.
     Number(u32),
 }
 
@@ -172,8 +181,8 @@ fn only_number(bytes: &[u8]) -> Option<u32>
     Some(u32::from_le_bytes([*a, *b, *c, *d]))
 }
 
-// Answers and bytes answer to each other: what is written is read back, and bytes that are an answer are that
-// answer's own. And the refusals are those of the book, with their numbers and places.
+// Answers and bytes fit each other: what is written is read back, and bytes that are an answer are that
+// answer's own. And what the book refuses is one of the refusals above, with its number and its place.
 pub fn answers_stand() -> u8
     ensures back { λ _. ⌜ Round-trip ⌝ }
     ensures own { λ _. ⌜ Own-bytes ⌝ }

@@ -108,9 +108,9 @@ pub fn encode(call: Call<'_>, out: &mut [u8]) -> Option<usize>
     }
 }
 
-// Calls and bytes answer to each other: what is written is read back, bytes that are a call are that call's
-// own, the place of bytes that are none is the only one that deserves the name, and the numbers are those
-// by which the book knows the calls.
+// Calls and bytes fit each other: what is written is read back, and bytes that are a call are that call's
+// own. Of bytes that are none, those before the place begin some call, and those with one byte more begin no
+// call. And the numbers are those by which the book knows the calls.
 pub fn calls_stand() -> u8
     ensures back { λ _. ⌜ Round-trip ⌝ }
     ensures own { λ _. ⌜ Own-bytes ⌝ }

@@ -1,8 +1,9 @@
 // Calls and answers as bytes.
 //
-// A clerk's program and the register share nothing but these bytes. So every string of bytes is exactly one
-// call, or none from a place on that can be told; and a call or an answer has exactly one string of bytes,
-// and is read back as it was written. Both directions work over lent slices and copy nothing that is read.
+// A clerk's program and the register share nothing but these bytes. So every string of bytes is one call, or
+// ceases to be one at a place that can be told; and every call and every answer has one string of bytes, and
+// is read back as it was written. Nothing is copied to be read: a write's page stays in the bytes in which it
+// came, and is lent from there.
 ghost use mathlib.Core.Path.{_≡_};
 ghost use Prim.Native.Nat.{_≤_, _<_};
 ghost use lib.ListN.{length, drop};
@@ -10,9 +11,7 @@ ghost use Rattle.std.specs.Options.{Cases as BySome};
 ghost use Rattle.bytes.specs.Words.{num4};
 
 pub mod answer;
-
 pub mod call;
-
 #[cfg(test)]
 mod tests;
 

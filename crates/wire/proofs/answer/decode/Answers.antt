@@ -1,5 +1,4 @@
 use borrow.Author.Needs.{needs}
-use native.Mathlib.Omega.{arith}
 use Rattle.std.proofs.shelf.Lists.{places, take-rest}
 use Rattle.wire.proofs.Answers.{page-is}
 use Rattle.wire.proofs.answer.decode.Needs as need
