@@ -32,7 +32,11 @@ pub struct Write {
 fn side_of(k: u64) -> Side
     ensures { λ r. ⌜ r ≡ side-at k ⌝ }
 {
-    if k % 2 == 0 { Side::First } else { Side::Second }
+    if k % 2 == 0 {
+        Side::First
+    } else {
+        Side::Second
+    }
 }
 
 // The k-th write of what goes on both disks: each step on the first, and then on the second.
@@ -43,7 +47,11 @@ fn mirrored_write(work: &Work, k: u64) -> Option<Write>
     let Some(step) = work.plan.step(&work.list, k / 2) else {
         return None;
     };
-    Some(Write { disk: side_of(k), block: step.block, kind: WriteKind::Journal(step.kind) })
+    Some(Write {
+        disk: side_of(k),
+        block: step.block,
+        kind: WriteKind::Journal(step.kind),
+    })
 }
 
 impl Work {
@@ -64,7 +72,11 @@ impl Work {
             return mirrored_write(self, k);
         };
         if k == 0 {
-            return Some(Write { disk: Side::Second, block, kind: WriteKind::Copied });
+            return Some(Write {
+                disk: Side::Second,
+                block,
+                kind: WriteKind::Copied,
+            });
         }
         mirrored_write(self, k - 1)
     }

@@ -18,7 +18,6 @@ and-true : (b : Bool) → (b && true) ≡ b
 and-true true = refl
 and-true false = refl
 
-
 write-order : (t u v : Bool) → _≡_ {A = ℕ} (cond t (cond u (cond v 0 4) 3) 2) (cond (eqb (cond t (cond u 0 3) 2) 0) (cond v 0 4) (cond t (cond u 0 3) 2))
 write-order true true v = refl
 write-order true false v = refl

@@ -28,7 +28,11 @@ use wire::call::Call;
 fn whole(bytes: &[u8]) -> Option<&[u8]>
     ensures { λ r. ⌜ BySome r (eqb (length (now (bytes .entry))) 1024 ≡ false) (λ x. (eqb (length (now (bytes .entry))) 1024 ≡ true) × (now x ≡ now (bytes .entry))) ⌝ }
 {
-    if bytes.len() == 1024 { Some(bytes) } else { None }
+    if bytes.len() == 1024 {
+        Some(bytes)
+    } else {
+        None
+    }
 }
 
 // A page's number, if there is such a page.
@@ -42,7 +46,11 @@ fn there(page: u32, pages: u32) -> Option<u32>
 fn with_room(count: u32) -> Option<u32>
     ensures { λ r. ⌜ BySome r (the-room ≤ count) (λ x. (x ≡ count) × (count < the-room)) ⌝ }
 {
-    if count < Layout::ROOM { Some(count) } else { None }
+    if count < Layout::ROOM {
+        Some(count)
+    } else {
+        None
+    }
 }
 
 // The call itself, or why it is refused before the log is looked at.
@@ -76,7 +84,7 @@ pub fn admit<'a>(pages: u32, call: Call<'a>) -> Result<Call<'a>, Refusal>
 pub fn plan(log: Log, call: Call<'_>) -> Result<Plan, Refusal>
     ensures { λ r. ⌜ ByOk r
         (λ p. (late (log .count) (meant (call .entry)) ≡ 0) × (fits p ≡ true)
-            × ((b : List Page) → count-on b ≡ log .count → plan-puts p (given-by (meant (call .entry))) b ≡ call-puts b (meant (call .entry))))
+        × ((b : List Page) → count-on b ≡ log .count → plan-puts p (given-by (meant (call .entry))) b ≡ call-puts b (meant (call .entry))))
         (λ e. (refusal-number e ≡ late (log .count) (meant (call .entry))) × (refusal-place e ≡ 0)) ⌝ }
 {
     match call {
