@@ -68,6 +68,14 @@ pub enum Wrong {
     TooLong,
     Moment,
     NoMoments,
+    // What can't happen when the line is played.
+    PowerGone,
+    PowerThere,
+    MomentLate,
+    MomentAfterPower,
+    LastDisk,
+    SetOutside,
+    NoDisk,
     Memory,
 }
 
@@ -88,6 +96,13 @@ impl Wrong {
             Wrong::TooLong => "there are more than 1,030 bytes",
             Wrong::Moment => "a moment is `power`, `first` or `second` and a number of writes",
             Wrong::NoMoments => "only a call and `recover` have moments",
+            Wrong::PowerGone => "power is gone: only `recover`, `power` and `die` are possible",
+            Wrong::PowerThere => "power is there, and there is nothing to recover",
+            Wrong::MomentLate => "there are fewer writes than a moment says",
+            Wrong::MomentAfterPower => "a moment comes after power went",
+            Wrong::LastDisk => "the other disk is dead, and one has to live",
+            Wrong::SetOutside => "there is no such block, or more bytes than a block has",
+            Wrong::NoDisk => "no disk lives",
             Wrong::Memory => "there is not enough memory",
         }
     }

@@ -11,6 +11,7 @@ use device::memory::MemDevice;
 use device::memory::MemDisk;
 use device::mirror::Mirror;
 use device::mirror::MirrorPair;
+use device::mirror::Pair;
 use device::mirror::Side;
 use engine::call;
 use engine::make::making;
@@ -199,6 +200,22 @@ impl World {
         }
         self.up = true;
         true
+    }
+
+    // Puts bytes at the start of a block on both disks, at rest. No register does this, and nothing is
+    // promised of a world after it: it is for a look at disks that no register wrote.
+    pub fn overwrite(&mut self, block: u64, bytes: &[u8]) -> bool {
+        if !self.up || self.under.is_some() || bytes.len() > 1024 {
+            return false;
+        }
+        let mut whole = [0; 1024];
+        if block >= Layout::blocks(self.pages) || !self.disks.read(block, &mut whole) {
+            return false;
+        }
+        whole[0..bytes.len()].copy_from_slice(bytes);
+        let first = self.disks.write(Side::First, block, &whole);
+        let second = self.disks.write(Side::Second, block, &whole);
+        first | second
     }
 
     pub fn is_up(&self) -> bool {
