@@ -1,3 +1,5 @@
 pub mod Lists
 pub mod Safely
 pub mod Puts
+pub mod Holding
+pub mod FirstAnswer
