@@ -106,7 +106,7 @@ entries-low n b c s t h =
     ap (entries-from b 0) (count-same n b c s t (h 0 (omega arith)))
     ∙ entries-same b c 0 (count c) (λ j q. ap (λ x. listed x j) (h 1 (omega arith))) (λ j q. h (2 + j) (omega arith))
 
-high-low : (m : Put) (b : List Page) → High m → Low-same (put m b) b
+pub high-low : (m : Put) (b : List Page) → High m → Low-same (put m b) b
 high-low m b h j l = nth-set-other b (m .block) j (m .content) (omega (arith, h .1))
 
 -- what a disk stands for
