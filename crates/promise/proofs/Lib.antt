@@ -1,3 +1,5 @@
 pub mod Worlds
 pub mod Right
 pub mod AsTwo
+pub mod Resting
+pub mod Moments
