@@ -3,3 +3,5 @@ pub mod Right
 pub mod AsTwo
 pub mod Resting
 pub mod Moments
+pub mod Recovered
+pub mod Since
