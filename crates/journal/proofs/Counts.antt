@@ -10,7 +10,7 @@ use Rattle.std.proofs.shelf.Tests.{cond-true, cond-false}
 use Rattle.model.specs.Numbers.{room}
 use Rattle.model.specs.Book.{Page, nth, Call, read, write, close, size, garbled, refused, Limits, Book, turned, told, answer}
 use Rattle.layout.proofs.Blocks.{log-count-few}
-use Rattle.journal.specs.Journal.{pages-of, holds, count, entries-from, entries, header-put, recovery, call-puts, book-of, puts-of}
+use Rattle.journal.specs.Journal.{pages-of, holds, count, entries, header-put, recovery, call-puts, book-of, puts-of}
 use Rattle.journal.proofs.Steps.{length-entries}
 
 pub count-few-always : (b : List Page) → count b ≤ room

@@ -1,6 +1,6 @@
 -- What the replicas' plans consist of: which disks their writes go to, which items they carry, and how many
 -- writes there are. Making the replicas the same copies one block at most to each disk but the source.
-use mathlib.Core.Path.{_≡_, refl, sym, ap, subst, _∙_}
+use mathlib.Core.Path.{_≡_, refl, sym, ap, subst}
 use mathlib.Core.Bool.{Bool, true, false, cond}
 use mathlib.Core.List.{List, [], _∷_, _++_}
 use Prim.Native.Nat.{ℕ, zero, suc, _+_, _*_, _-_, _≤_, _<_}

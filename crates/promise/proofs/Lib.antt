@@ -5,3 +5,5 @@ pub mod Resting
 pub mod Moments
 pub mod Recovered
 pub mod Since
+pub mod Within
+pub mod Counts

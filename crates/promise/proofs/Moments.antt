@@ -20,10 +20,8 @@ use Rattle.model.proofs.Puts.{In}
 use Rattle.model.proofs.Safely.{safe-here}
 use Rattle.mirror.proofs.Each.{Each, Has, each-map}
 use Rattle.mirror.proofs.Replicas.{Ahead, Shape, agree, ahead, next}
-use Rattle.mirror.proofs.Resync.{id}
-use Rattle.layout.specs.PageList.{listed}
-use Rattle.journal.specs.Journal.{holds, count, entry, entries-from, entries}
-use Rattle.journal.proofs.Log.{Allowed, Sound, count-few, count-same, holds-same, high-low, entry-high, replayed-sound, replayed-holds}
+use Rattle.journal.specs.Journal.{holds, count, entry, entries-from}
+use Rattle.journal.proofs.Log.{Allowed, Sound, count-few, count-same, holds-same, high-low, entry-high, replayed-holds}
 use Rattle.promise.specs.Register.{register}
 use Rattle.promise.specs.LateReading.{Log-same, Reads-late}
 use Rattle.promise.proofs.Right.{any-moment}

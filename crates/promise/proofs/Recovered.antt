@@ -1,6 +1,6 @@
 -- Recovery that was done and is done once more only empties the header again: no page of any disk changes.
 use mathlib.Core.Path.{_≡_, refl, ap, _∙_}
-use mathlib.Core.Bool.{Bool, true, false, cond, _&&_}
+use mathlib.Core.Bool.{Bool, true, false, cond}
 use mathlib.Core.List.{List, [], _∷_, _++_}
 use Prim.Native.Nat.{ℕ, suc, _<_}
 use native.Mathlib.Omega.{arith}
@@ -8,15 +8,15 @@ use lib.Dec.{eqb}
 use lib.ListN.{length}
 use Rattle.std.proofs.shelf.Tests.{cond-false}
 use Rattle.model.specs.Numbers.{first-page}
-use Rattle.model.specs.Book.{Page, Limits, new-book}
-use Rattle.model.specs.Disks.{Disk, On, wrote-one, wrote-from, wrote, wrote-all, View, seen}
+use Rattle.model.specs.Book.{Limits, new-book}
+use Rattle.model.specs.Disks.{On, wrote-from, wrote, wrote-all, View, seen}
 use Rattle.model.specs.Plain.{Put, put, plain}
 use Rattle.model.specs.Promise.{from-block}
 use Rattle.model.specs.Statements.{pages-on, Recovered-once}
 use Rattle.model.proofs.Lists.{from-set-below}
-use Rattle.mirror.specs.Mirror.{numbers, on-each, mirrored, source, resync}
+use Rattle.mirror.specs.Mirror.{numbers, on-each, mirrored, resync}
 use Rattle.mirror.proofs.Each.{source-is}
-use Rattle.mirror.proofs.Replicas.{Shape, at-end, written-out}
+use Rattle.mirror.proofs.Replicas.{at-end, written-out}
 use Rattle.mirror.proofs.Resync.{id, resync-none, recovery-shape}
 use Rattle.mirror.proofs.Plans.{All-items, items-append, items-on-each}
 use Rattle.journal.specs.Journal.{holds, entries, header-put, recovery}

@@ -1,6 +1,6 @@
 -- The register at rest: the pages that hold stand on each living disk, and any two living disks are the
 -- same. New disks are empty, and a refused call writes nothing.
-use mathlib.Core.Path.{_≡_, refl, sym, ap, subst, _∙_}
+use mathlib.Core.Path.{_≡_, refl, sym, ap, subst}
 use mathlib.Core.List.{List, [], _∷_}
 use Prim.Native.Nat.{ℕ, suc, _+_}
 use lib.ListN.{length}

@@ -2,14 +2,14 @@
 -- is the journal's plan taken to the replicas, and recovery is the journal's after the replicas were made
 -- the same. So the main promise holds of it.
 use mathlib.Core.Path.{_≡_, refl, sym, ap, subst, _∙_}
-use mathlib.Core.Bool.{Bool, true}
+use mathlib.Core.Bool.{Bool}
 use mathlib.Core.List.{List, [], _∷_}
 use Prim.Native.Nat.{ℕ, suc, _+_, _≤_}
 use lib.ListN.{length}
 use Rattle.std.proofs.shelf.Tests.{cond-true}
 use Rattle.model.specs.Numbers.{first-page, most-pages}
 use Rattle.model.specs.Book.{Page, empty-page, many, Limits, Book, new-book, answer}
-use Rattle.model.specs.Disks.{Disk, wrote-all, alive, View, seen, Fallen, Fit, was-told, was-cut, World, Lived}
+use Rattle.model.specs.Disks.{Disk, wrote-all, View, seen, Fallen, Fit, was-told, was-cut, World, Lived}
 use Rattle.model.specs.Plain.{Put, put, plain}
 use Rattle.model.specs.Promise.{Right}
 use Rattle.model.specs.Statements.{Good-size, At-rest}

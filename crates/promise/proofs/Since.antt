@@ -3,7 +3,6 @@
 use mathlib.Core.Path.{_≡_, refl, sym, ap, _∙_}
 use mathlib.Core.Bool.{Bool, true, false}
 use mathlib.Core.List.{List, [], _∷_, _++_}
-use Prim.Native.Nat.{ℕ}
 use Rattle.std.proofs.shelf.Lists.{append-cancel-right}
 use Rattle.model.specs.Numbers.{first-page}
 use Rattle.model.specs.Book.{Page, Limits, Book, new-book}
