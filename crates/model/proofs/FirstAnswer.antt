@@ -6,22 +6,12 @@ use mathlib.Core.List.{List, [], _∷_}
 use Prim.Native.Nat.{ℕ}
 use lib.ListN.{length}
 use Rattle.model.specs.Book.{Call, Answer, Limits, Book, answer}
-use Rattle.model.specs.Disks.{Disk, On, Medium, wrote, wrote-all, seen, Program, was-told, Under, World, Lived}
-use Rattle.model.specs.Disks.Lived.{begins, one-written, answered}
+use Rattle.model.specs.Disks.{Disk, Medium, wrote-all, seen, Program, was-told, Under, World, Lived}
+use Rattle.model.specs.Disks.Lived.{begins, answered}
 use Rattle.model.specs.Promise.{Leads, Right}
 use Rattle.model.specs.Promise.Leads.{at-first}
 use Rattle.model.specs.Statements.{First-answer-is-right}
-
--- a world with other disks, and other items to write
-abbrev pub with-todo : {S I : Type 0} → World S I → List (Disk S) → List (On I) → World S I
-with-todo w d ws = record { disks = d; memory = w .memory; up = w .up; todo = ws; under = w .under; past = w .past }
-
--- all that is to be written can be written
-pub written-out : {S I : Type 0} (M : Medium S I) (f : Program I) (l : Limits) (w : World S I) (ws : List (On I)) (d : List (Disk S)) → Lived M f l (with-todo w d ws) →
-    Lived M f l (with-todo w (wrote-all (M .step) ws d) [])
-unfolding wrote-all
-written-out M f l w [] d lived = lived
-written-out M f l w (x ∷ xs) d lived = written-out M f l w xs (wrote (M .step) x d) (one-written {w = with-todo w d (x ∷ xs)} x xs lived refl)
+use Rattle.model.proofs.Runs.{written-out}
 
 first-told : {l : Limits} {o : Book} {c : Call} {a : Answer} {b : Book} → Leads l o (was-told c a ∷ []) b → a ≡ answer l o c
 first-told (Leads.told c at-first) = refl

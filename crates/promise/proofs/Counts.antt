@@ -45,10 +45,11 @@ call-counts l m d c =
 
 pub recovery-counts : Recovery-counts
 unfolding Recovery-counts
-recovery-counts d =
-    ( length-append (resync 0 (source d) d) (mirrored (length d) (recovery (source d)))
-      ∙ ap (λ n. length (resync 0 (source d) d) + n) (length-mirrored (length d) (recovery (source d)) ∙ ap (λ n. length d * n) (length-recovery (source d)))
-    , length-resync d)
+recovery-counts d = (
+  length-append (resync 0 (source d) d) (mirrored (length d) (recovery (source d)))
+      ∙ ap (λ n. length (resync 0 (source d) d) + n) (length-mirrored (length d) (recovery (source d)) ∙ ap (λ n. length d * n) (length-recovery (source d))),
+  length-resync d,
+)
 
 -- for two disks
 call-length-few : (n : ℕ) (c : Call) → n ≤ room → call-length n c ≤ 2 + room
@@ -71,11 +72,12 @@ unfolding Stays-bounded Call-counts Recovery-counts
 stays-bounded d e =
     let few = count-few-always (source d) in
     let r : length d * cond (holds (source d)) (count (source d) + 1) 1 ≤ 2 * (1 + room) = twice-few (length d) _ (1 + room) e (cond-few (holds (source d)) (count (source d) + 1) 1 (1 + room) (omega arith) (omega arith)) in
-    let h = recovery-counts d in
-    ( total (length (recovery-writes d)) (length (resync 0 (source d) d)) _ (length d) e (h .0) r (h .1)
-    , λ l m c.
-        subst (λ (x : ℕ). x ≤ most-call-writes) (sym (call-counts l m d c))
-        (twice-few (length d) _ (2 + room) e (cond-few (eqb (turned l (book-of (source d)) c) 0) (call-length (count (source d)) c) 0 (2 + room) (call-length-few (count (source d)) c few) (omega arith))))
+    let h = recovery-counts d in (
+      total (length (recovery-writes d)) (length (resync 0 (source d) d)) _ (length d) e (h .0) r (h .1),
+      λ l m c.
+          subst (λ (x : ℕ). x ≤ most-call-writes) (sym (call-counts l m d c))
+          (twice-few (length d) _ (2 + room) e (cond-few (eqb (turned l (book-of (source d)) c) 0) (call-length (count (source d)) c) 0 (2 + room) (call-length-few (count (source d)) c few) (omega arith))),
+    )
   where
     total : (x a b k : ℕ) → k ≡ 2 → x ≡ a + b → b ≤ 2 * (1 + room) → a ≤ k - 1 → x ≤ most-recovery-writes
     total x a b k e f g h = omega arith
@@ -136,7 +138,8 @@ blank-items k n a (suc m) h =
 pub makes-each-once : Makes-each-once
 unfolding Makes-each-once
 makes-each-once k n =
-    let ms : List Put = blank-puts 0 (n + first-page) in
-    ( length-mirrored k ms ∙ ap (λ x. k * x) (length-blanks 0 (n + first-page))
-    , within-from k n (mirrored k ms) (below-mirrored k ms) (blank-items k n 0 (n + first-page) (omega arith))
-    , λ i j h l. times-mirrored i j k ms h ∙ blank-once j 0 (n + first-page) (omega arith) (omega arith))
+    let ms : List Put = blank-puts 0 (n + first-page) in (
+      length-mirrored k ms ∙ ap (λ x. k * x) (length-blanks 0 (n + first-page)),
+      within-from k n (mirrored k ms) (below-mirrored k ms) (blank-items k n 0 (n + first-page) (omega arith)),
+      λ i j h l. times-mirrored i j k ms h ∙ blank-once j 0 (n + first-page) (omega arith) (omega arith),
+    )

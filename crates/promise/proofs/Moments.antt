@@ -120,9 +120,11 @@ reads-late l w x xs size lived t high =
     let low = high-low m s (entry-high n s m (p .sound) i) in
     let c : count (put m s) ≡ count s = count-same n (put m s) s (q .sound) (p .sound) (low 0 (omega arith)) in
     let b : k < room = omega (arith, count-few n s (p .sound)) in
-    let f : entry (put m s) k ≡ entry s k = entry-low s (put m s) k (low 1 (omega arith)) (low (2 + k) (omega arith)) in
-    (k, either-live s (put m s) (λ a. (holds a ≡ true) × (k < count a) × (m ≡ entry a k)) (h, few, e′)
-        (replayed-holds n s m (p .sound) i ∙ h, subst (λ (z : ℕ). k < z) (sym c) few, e′ ∙ sym f) 0 (w .disks) each)
+    let f : entry (put m s) k ≡ entry s k = entry-low s (put m s) k (low 1 (omega arith)) (low (2 + k) (omega arith)) in (
+      k,
+      either-live s (put m s) (λ a. (holds a ≡ true) × (k < count a) × (m ≡ entry a k)) (h, few, e′)
+          (replayed-holds n s m (p .sound) i ∙ h, subst (λ (z : ℕ). k < z) (sym c) few, e′ ∙ sym f) 0 (w .disks) each,
+    )
   where
     entry-low : (s t : List Page) (k : ℕ) → nth t 1 ≡ nth s 1 → nth t (2 + k) ≡ nth s (2 + k) → entry t k ≡ entry s k
     entry-low s t k e f = rw (e, f)
