@@ -77,11 +77,12 @@ pub fn finish<P: Pair>(disks: &mut P, work: &Work) -> bool
     ensures { λ r. ⌜ Finished (P·Pair .disks (now (disks .entry))) (P·Pair .disks (now (disks .exit))) (now (work .entry)) r ⌝ }
 {
     let mut held = [0; 1024];
-    if let Some(block) = work.copy {
-        let write = Write { disk: Side::Second, block, kind: WriteKind::Copied };
-        if !perform(disks, work, write, &mut held) {
-            return false;
-        }
+    let Some(block) = work.copy else {
+        return put_all(disks, work, &mut held);
+    };
+    let write = Write { disk: Side::Second, block, kind: WriteKind::Copied };
+    if !perform(disks, work, write, &mut held) {
+        return false;
     }
     put_all(disks, work, &mut held)
 }

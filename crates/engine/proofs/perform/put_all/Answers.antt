@@ -12,4 +12,4 @@ pub returns-then-not-put-step : need.returns-then-not-put-step
 returns-then-not-put-step g c = all-dead _ _ _ (c .args .work .now) (c .loop-i .i) _ (c .loop-i .inv) (c .put-step .ensures) (c .if-not-put-step .taken)
 
 pub returns : need.returns
-returns g c = all-done _ _ (c .args .work .now) (c .loop-i .i) _ (λ b. omega (arith, c .len .ensures .value b (c .args .work .now .block))) (c .loop-i .inv) (c .is-alive .ensures)
+returns g c = all-done _ _ (c .args .work .now) (c .loop-i .i) _ (λ b. omega (arith, c .len-i-end .ensures .value b (c .args .work .now .block))) (c .loop-i .inv) (c .is-alive .ensures)
