@@ -101,14 +101,17 @@ pub read-readied : (s t : Option Both) (w : Work) (x : Write) (held out : Page) 
     Reads-log (w .plan) kind → ((b : List Page) → nth b 1 ≡ w .list → (content (w .block) b kind ≡ nth b k) × Log-block kind k) → Fetched s t k out r → Readied s t w x held out r
 read-readied s t w x held out k r kind is first l reads filled fetch d e b list can =
     let f = fetch d e in
-    let z = filled b list in
-    ( f .0, f .1, f .2
-    , (λ h. let g = f .4 h in
-            shown-block out (g .0) k l (g .2)
-            ∙ late-read (w .plan) kind k d b (g .0) (z .1) reads (log-for-first w b d (x .disk) (x .kind) held kind first is can) (g .1)
-            ∙ sym (z .0)
-            ∙ ap (written (w .block) b) (sym is))
-    , (λ h. sym (f .3) ∙ h) )
+    let z = filled b list in (
+      f .0,
+      f .1,
+      f .2,
+      (λ h. let g = f .4 h in
+          shown-block out (g .0) k l (g .2)
+          ∙ late-read (w .plan) kind k d b (g .0) (z .1) reads (log-for-first w b d (x .disk) (x .kind) held kind first is can) (g .1)
+          ∙ sym (z .0)
+          ∙ ap (written (w .block) b) (sym is)),
+      (λ h. sym (f .3) ∙ h),
+    )
 
 -- one write done, or both disks found dead before it
 pub performed : (s t u : Option Both) (w : Work) (x : Write) (held held' : Page) (r q : Bool) → Readied s t w x held held' r → r ≡ true →

@@ -39,6 +39,7 @@ put-keeps b h x (inr e) same i q = go (cases-eq (x .block) (2 + i))
     there : x .block ≡ 2 + i → (x .block < length h) ⊎ (length h ≤ x .block) → nth (put x h) (2 + i) ≡ nth b (2 + i)
     there z (inl l) = ap (nth (put x h)) (sym z) ∙ nth-set-same h (x .block) (x .content) l ∙ e ∙ ap (nth b) z
     there z (inr l) = ap (λ c. nth c (2 + i)) (set-past h (x .block) (x .content) l) ∙ same i q
+
     go : (x .block ≡ 2 + i) ⊎ (x .block ≡ 2 + i → ⊥) → nth (put x h) (2 + i) ≡ nth b (2 + i)
     go (inl z) = there z (cases-lt (x .block) (length h))
     go (inr z) = nth-set-other h (x .block) (2 + i) (x .content) z ∙ same i q

@@ -121,11 +121,11 @@ pub some-more : (s t u : Option Both) (w : Work) (i : ℕ) (r : Bool) → Put-so
 some-more s t u w i r some step d e b list late =
     let h = some d e b list late in
     let keep : replays (w .plan) ≡ true → Log-same (view (h .0)) b =
-        λ z. ran-keeps b (keep-mirrored b (take i (steps-of w b)) (keep-take b (steps-of w b) i (replay-keeps (w .plan) (w .block) b z))) (h .2) (late z) in
+    λ z. ran-keeps b (keep-mirrored b (take i (steps-of w b)) (keep-take b (steps-of w b) i (replay-keeps (w .plan) (w .block) b z))) (h .2) (late z) in
     let g = step (h .0) (h .1) b list keep in
     let P : List (On Put) → Type 0 = λ ws. Ran ws (view d) (view (g .0)) in
     let is : mirrored copies (take i (steps-of w b)) ++ mirrored copies (one-of (item (steps-of w b) i)) ≡ mirrored copies (take (i + 1) (steps-of w b)) =
-        mirrored-append (take i (steps-of w b)) (one-of (item (steps-of w b) i)) ∙ ap (mirrored copies) (take-one (steps-of w b) i ∙ ap (λ n. take n (steps-of w b)) (sym (add-one i))) in
+    mirrored-append (take i (steps-of w b)) (one-of (item (steps-of w b) i)) ∙ ap (mirrored copies) (take-one (steps-of w b) i ∙ ap (λ n. take n (steps-of w b)) (sym (add-one i))) in
     (g .0, g .1, subst P is (ran-more (h .2) (g .2)), g .3)
 
 pub some-on : (s t u : Option Both) (w : Work) (i : ℕ) (r : Bool) → Put-some s t w i → Stepped t u w i r → Put-some s u w (i + 1)

@@ -51,7 +51,11 @@ fn put_step<P: Pair>(disks: &mut P, work: &Work, i: u64, held: &mut [u8; 1024]) 
         return disks.is_alive();
     };
     for disk in [Side::First, Side::Second] {
-        let write = Write { disk, block: step.block, kind: WriteKind::Journal(step.kind) };
+        let write = Write {
+            disk,
+            block: step.block,
+            kind: WriteKind::Journal(step.kind),
+        };
         if !perform(disks, work, write, held) {
             return false;
         }
@@ -80,7 +84,11 @@ pub fn finish<P: Pair>(disks: &mut P, work: &Work) -> bool
     let Some(block) = work.copy else {
         return put_all(disks, work, &mut held);
     };
-    let write = Write { disk: Side::Second, block, kind: WriteKind::Copied };
+    let write = Write {
+        disk: Side::Second,
+        block,
+        kind: WriteKind::Copied,
+    };
     if !perform(disks, work, write, &mut held) {
         return false;
     }

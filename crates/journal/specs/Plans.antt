@@ -36,8 +36,8 @@ Placed Empty = Unit {0}
 abbrev pub replays : Plan → Bool
 replays Nothing = false
 replays (Write n p) = false
-replays (Close n) = true
-replays (Replay n) = true
+replays (Close n) = ltb 0 n
+replays (Replay n) = ltb 0 n
 replays (Make k) = false
 
 -- what is read off the log is read by a plan that replays it, and lies in the log

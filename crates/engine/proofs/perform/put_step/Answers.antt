@@ -15,17 +15,17 @@ loop-disk-holds g c = halfway-none _ (c .args .work .now) (c .in-Some .step) (c 
 pub loop-disk-again : need.loop-disk-again
 loop-disk-again g c =
     halfway-on _ _ (c .args .work .now) (c .in-Some .step) (c .loop-disk .disk-index) (c .perform .last .held) (c .perform .result)
-        (half-more _ _ _ (c .args .work .now) (c .in-Some .step) (c .loop-disk .disk-index) _ (c .loop-disk .held) (c .perform .last .held) (c .perform .result) (omega arith) refl (c .loop-disk .inv) (c .perform .ensures))
-        (c .if-not-perform .left)
+    (half-more _ _ _ (c .args .work .now) (c .in-Some .step) (c .loop-disk .disk-index) _ (c .loop-disk .held) (c .perform .last .held) (c .perform .result) (omega arith) refl (c .loop-disk .inv) (c .perform .ensures))
+    (c .if-not-perform .left)
 
 pub returns-then-not-perform : need.returns-then-not-perform
 returns-then-not-perform g c =
     half-dead _ _ (c .args .work .now) (c .in-Some .step) (c .args .i) _ (c .perform .last .held) (c .perform .result)
-        (λ b list. c .in-Some .ensures tt .value b (c .args .work .now .block) list)
-        (half-more _ _ _ (c .args .work .now) (c .in-Some .step) (c .loop-disk .disk-index) _ (c .loop-disk .held) (c .perform .last .held) (c .perform .result) (omega arith) refl (c .loop-disk .inv) (c .perform .ensures))
-        (c .if-not-perform .taken)
+    (λ b list. c .in-Some .ensures tt .value b (c .args .work .now .block) list)
+    (half-more _ _ _ (c .args .work .now) (c .in-Some .step) (c .loop-disk .disk-index) _ (c .loop-disk .held) (c .perform .last .held) (c .perform .result) (omega arith) refl (c .loop-disk .inv) (c .perform .ensures))
+    (c .if-not-perform .taken)
 
 pub returns : need.returns
 returns g c =
     half-done _ _ (c .args .work .now) (c .in-Some .step) (c .args .i) (c .loop-disk .disk-index) (c .loop-disk .held) _
-        (λ b list. c .in-Some .ensures tt .value b (c .args .work .now .block) list) (omega arith) (c .loop-disk .inv) (c .is-alive-2 .ensures)
+    (λ b list. c .in-Some .ensures tt .value b (c .args .work .now .block) list) (omega arith) (c .loop-disk .inv) (c .is-alive-2 .ensures)

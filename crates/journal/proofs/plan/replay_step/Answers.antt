@@ -3,6 +3,7 @@ use mathlib.Core.Bool.{false}
 use Prim.Native.Nat.{ℕ, _+_, _*_}
 use native.Mathlib.Omega.{arith}
 use borrow.Author.Needs.{needs}
+use Rattle.std.proofs.shelf.Tests.{lt-ltb}
 use Rattle.std.specs.declared.option.Option.the-variants.{Some}
 use Rattle.model.specs.Numbers.{first-page}
 use Rattle.model.specs.Book.{Page, nth}
@@ -19,7 +20,7 @@ returns-then-i-count c = record {
       let page-is = c .page .ensures ∙ ap (λ (x : Page). listed x i) (sym e) in
       ap (λ (k : ℕ). Some (record { block = k; content = nth b (2 + i) })) (c .page-block .ensures ∙ ap (λ (k : ℕ). first-page + k) page-is)
       ∙ sym (entry-item b (header-put false 0) (c .args .count) i (c .if-i-count .taken));
-  placed = (tt, (refl, search needs));
+  placed = (tt, (lt-ltb 0 (c .args .count) (omega arith), search needs));
 }
 
 pub returns-then-i-count-2 : need.returns-then-i-count-2
