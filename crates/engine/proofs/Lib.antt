@@ -1,1 +1,4 @@
 pub mod Writes
+pub mod Doing
+pub mod LogKept
+pub mod Stepping

@@ -2,7 +2,6 @@
 -- Definitions only.
 use mathlib.Core.Path.{_≡_}
 use mathlib.Core.Bool.{true, cond}
-use mathlib.Core.List.{[]}
 use Prim.Native.Nat.{ℕ}
 use lib.Dec.{ltb, eqb}
 use lib.ListN.{length}
@@ -26,13 +25,13 @@ late waiting close = 0
 late waiting size = 0
 late waiting (garbled k) = 0
 
--- the bytes that come with a call
-abbrev pub given-by : Call → Page
-given-by (read a) = []
-given-by (write a p) = p
-given-by close = []
-given-by size = []
-given-by (garbled k) = []
+-- a block that has the bytes that come with a call, if any do
+abbrev pub Gives : Call → Page → Type 0
+Gives (read a) given = Unit {0}
+Gives (write a p) given = given ≡ p
+Gives close given = Unit {0}
+Gives size given = Unit {0}
+Gives (garbled k) given = Unit {0}
 
 -- a call whose page is made of bytes, as any that came in bytes is
 abbrev pub In-bytes : Call → Type 0
