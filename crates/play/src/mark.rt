@@ -77,20 +77,38 @@ impl Answer {
 #[derive(Clone, Copy)]
 pub enum Mark {
     // Two new disks were made, by so many writes.
-    Made { writes: u64 },
+    Made {
+        writes: u64,
+    },
     // A command of the script begins, by its place among them.
     Command(usize),
     // A write was done, by its number in the call or recovery. To a dead disk nothing was written.
-    Wrote { number: u64, write: Write, alive: bool },
-    Answered { answer: Answer, writes: u64 },
+    Wrote {
+        number: u64,
+        write: Write,
+        alive: bool,
+    },
+    Answered {
+        answer: Answer,
+        writes: u64,
+    },
     // A call was answered alike so many times, by so many writes each.
-    Repeated { times: u32, answer: Answer, writes: u64 },
+    Repeated {
+        times: u32,
+        answer: Answer,
+        writes: u64,
+    },
     // Power went when so many of the writes of a call or recovery were done.
-    Cut { done: u64, count: u64 },
+    Cut {
+        done: u64,
+        count: u64,
+    },
     // Power went at rest.
     Power,
     Died(Side),
-    Recovered { writes: u64 },
+    Recovered {
+        writes: u64,
+    },
     // Bytes were put into a block by no register.
     Set(u64),
 }

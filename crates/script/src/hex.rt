@@ -1,6 +1,9 @@
 // Numbers and bytes as a script writes them.
 use std::alloc::AllocError;
 
+// How often a byte is repeated at most; no call is so long.
+const MOST_TIMES: u64 = 10000;
+
 // A number in decimal digits; None for any other word.
 pub fn number(word: &str) -> Option<u64> {
     if word.is_empty() {
@@ -71,7 +74,7 @@ fn push_many(pair: &[u8], times: &str, out: &mut Vec<u8>) -> Result<bool, AllocE
     let Some(n) = number(times) else {
         return Ok(false);
     };
-    if n > 1030 {
+    if n > MOST_TIMES {
         return Ok(false);
     }
     for _ in 0..n {

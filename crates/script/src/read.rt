@@ -209,6 +209,9 @@ fn times(heap: Global, words: &[&str]) -> Result<Order, Wrong> {
     let Some(n) = number_u32(n) else {
         return Err(Wrong::Times);
     };
+    if call.is_empty() {
+        return Err(Wrong::Times);
+    }
     if n == 0 || n > MOST_TIMES {
         return Err(Wrong::TimesOutside);
     }

@@ -128,10 +128,17 @@ fn show_write<W: fmt::Write>(
 fn show_made<W: fmt::Write>(f: &mut fmt::Formatter<W>, pages: u32, writes: u64) -> fmt::Result {
     let blocks = Layout::blocks(pages);
     let writes = Writes(writes);
-    write!(f, "> pages {pages}\n< two new disks of {blocks} blocks, {writes}")
+    write!(
+        f,
+        "> pages {pages}\n< two new disks of {blocks} blocks, {writes}"
+    )
 }
 
-fn show_command<W: fmt::Write>(f: &mut fmt::Formatter<W>, script: &Script, at: usize) -> fmt::Result {
+fn show_command<W: fmt::Write>(
+    f: &mut fmt::Formatter<W>,
+    script: &Script,
+    at: usize,
+) -> fmt::Result {
     let Some(command) = script.commands.get(at) else {
         return Ok(());
     };
@@ -144,13 +151,21 @@ pub impl fmt::Display for Line<'_> as LineDisplay {
         match self.mark {
             Mark::Made { writes } => show_made(f, self.script.pages, writes),
             Mark::Command(at) => show_command(f, self.script, at),
-            Mark::Wrote { number, write, alive } => show_write(f, number, write, alive),
+            Mark::Wrote {
+                number,
+                write,
+                alive,
+            } => show_write(f, number, write, alive),
             Mark::Answered { answer, writes } => {
                 let answer = AnswerShown(answer);
                 let writes = Writes(writes);
                 write!(f, "< {answer}; {writes}")
             }
-            Mark::Repeated { times, answer, writes } => {
+            Mark::Repeated {
+                times,
+                answer,
+                writes,
+            } => {
                 let answer = AnswerShown(answer);
                 let writes = Writes(writes);
                 write!(f, "< {times} times {answer}; {writes} each")
