@@ -45,6 +45,23 @@ impl Book {
         self.old[number as usize]
     }
 
+    // A page as it will be after a close.
+    pub fn coming(&self, number: u32) -> [u8; 1024] {
+        if number >= self.pages {
+            return [0; 1024];
+        }
+        self.new[number as usize]
+    }
+
+    pub fn pages(&self) -> u32 {
+        self.pages
+    }
+
+    // How many writes wait.
+    pub fn waiting(&self) -> u32 {
+        self.waiting
+    }
+
     // The call that bytes are, or why the book refuses it.
     fn admitted<'a>(&self, bytes: &'a [u8]) -> Result<Call<'a>, Refusal> {
         let call = match call::decode(bytes) {

@@ -120,6 +120,9 @@ impl Play {
     }
 
     fn die(&mut self, side: Side) -> Result<(), Wrong> {
+        if !self.world.is_alive(side) {
+            return Err(Wrong::DeadBefore);
+        }
         if !self.world.kill(side) {
             return Err(Wrong::LastDisk);
         }
@@ -152,12 +155,17 @@ impl Play {
     }
 
     // Disks that die while they are read are told so before.
-    fn before_reading(&mut self, moments: &[Moment]) {
+    fn before_reading(&mut self, moments: &[Moment]) -> Result<(), Wrong> {
         for moment in moments {
-            if let Moment::Reading { side, read } = *moment {
-                self.world.set_left(side, read.saturating_sub(1));
+            let Moment::Reading { side, read } = *moment else {
+                continue;
+            };
+            if !self.world.is_alive(side) {
+                return Err(Wrong::DeadBefore);
             }
+            self.world.set_left(side, read.saturating_sub(1));
         }
+        Ok(())
     }
 
     // What died while it was read; what should have and didn't is a fault of the line.
@@ -208,7 +216,7 @@ impl Play {
     }
 
     fn call(&mut self, asked: &Asked, moments: &[Moment]) -> Result<(), Wrong> {
-        self.before_reading(moments);
+        self.before_reading(moments)?;
         let count = self.begin(asked)?;
         self.after_reading(moments)?;
         if !self.writes(moments, count)? {
@@ -275,7 +283,7 @@ impl Play {
         if self.world.is_up() {
             return Err(Wrong::PowerThere);
         }
-        self.before_reading(moments);
+        self.before_reading(moments)?;
         if !self.world.cut() {
             return Err(Wrong::NoDisk);
         }

@@ -71,7 +71,9 @@ pub enum Wrong {
     MomentLate,
     MomentAfterPower,
     LastDisk,
+    DeadBefore,
     SetOutside,
+    NotExplored,
     NoDisk,
     Memory,
 }
@@ -98,6 +100,8 @@ impl Wrong {
             Wrong::MomentLate => "there are fewer writes, or reads, than a moment says",
             Wrong::MomentAfterPower => "a moment comes after power went",
             Wrong::LastDisk => "the other disk is dead, and one has to live",
+            Wrong::DeadBefore => "the disk is dead already",
+            Wrong::NotExplored => "`times` and `set` are only played, and not explored",
             Wrong::SetOutside => "there is no such block, or more bytes than a block has",
             Wrong::NoDisk => "no disk lives",
             Wrong::Memory => "there is not enough memory",
