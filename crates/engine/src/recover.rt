@@ -68,7 +68,9 @@ fn scan_piece<P: Pair>(
 
 // Reads both disks through: the highest block in which they differ, which is kept as it is on the first.
 // None where they are the same, or one of them is dead.
-pub fn scan<P: Pair>(disks: &mut P, pages: u32, block: &mut [u8; 1024]) -> Option<u64> {
+pub fn scan<P: Pair>(disks: &mut P, pages: u32, block: &mut [u8; 1024]) -> Option<u64>
+    ensures { λ r. ⌜ Scanned (P·Pair .disks (now (disks .entry))) (P·Pair .disks (now (disks .exit))) pages r (now (block .exit)) ⌝ }
+{
     let blocks = Layout::blocks(pages);
     let mut first = [0; 262144];
     let mut second = [0; 262144];
