@@ -140,7 +140,7 @@ highest-is xs ys n (Some k) kept l m (a, b, differ, same) c =
 pub scanned-all : (s t : Option Both) (pages n : ℕ) (r : Option ℕ) (kept : Page) → n ≡ pages + 258 → Read-through s t n r kept → Scanned s t pages r kept
 scanned-all s t pages n r kept e read d is long =
     let h = read d is in
-    (d, h .0, stays, (λ live. (refl, highest-is (d .first .has) (d .second .has) n r kept (long .0 ∙ sym e) (long .1 ∙ sym e) (h .2) (h .3))), h .1)
+    (d, h .0, stays, (λ live. (refl, highest-is (d .first .has) (d .second .has) n r kept (long .0 ∙ sym e) (long .1 ∙ sym e) (h .2) (h .3), h .3)), h .1)
 
 pub scanned-dead : (s t u : Option Both) (pages m from n : ℕ) (r : Option ℕ) (was kept : Page) → Read-through s t m r was → Piece-read t u from n Dead was kept → Scanned s u pages None kept
 scanned-dead s t u pages m from n r was kept read piece d is long =

@@ -70,7 +70,7 @@ abbrev pub Scanned : Option Both → Option Both → ℕ → Option ℕ → Page
 Scanned before after pages r kept =
     (d : Both) → before ≡ Some d → Of-pages pages d →
     (e : Both) × (after ≡ Some e) × Ran [] (view d) (view e)
-    × (both-live e ≡ true → (e ≡ d) × (copy-put r kept ≡ highest 0 (d .first .has) (d .second .has))) × (both-live e ≡ false → r ≡ None)
+    × (both-live e ≡ true → (e ≡ d) × (copy-put r kept ≡ highest 0 (d .first .has) (d .second .has)) × Copies r kept (d .first .has)) × (both-live e ≡ false → r ≡ None)
 
 -- the blocks of the disk that is gone by
 abbrev pub source-of : Both → List Page

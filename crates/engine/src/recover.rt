@@ -89,7 +89,10 @@ pub fn scan<P: Pair>(disks: &mut P, pages: u32, block: &mut [u8; 1024]) -> Optio
 
 // What recovery writes, by header and list of the disk that is gone by: the block to be copied, if there is
 // one, and what the journal replays.
-fn replaying(copy: Option<u64>, block: [u8; 1024], log: &[u8; 2048], pages: u32) -> Work {
+fn replaying(copy: Option<u64>, block: [u8; 1024], log: &[u8; 2048], pages: u32) -> Work
+    ensures keeps { λ r. ⌜ r .copy ≡ copy ⌝ ∗ ⌜ r .block ≡ block ⌝ }
+    ensures plan { λ r. ⌜ Works-out (now (log .entry)) pages r ⌝ }
+{
     let mut list = [0; 1024];
     list.copy_from_slice(&log[1024..2048]);
     let plan = admit::replay(Log::decode(&log[0..1024], &list, pages));
@@ -102,7 +105,9 @@ fn replaying(copy: Option<u64>, block: [u8; 1024], log: &[u8; 2048], pages: u32)
 }
 
 // Begins recovery of disks of so many pages: works out all that it writes. None: both disks are dead.
-pub fn begin_recovery<P: Pair>(disks: &mut P, pages: u32) -> Option<Work> {
+pub fn begin_recovery<P: Pair>(disks: &mut P, pages: u32) -> Option<Work>
+    ensures { λ r. ⌜ Recovery-begun (P·Pair .disks (now (disks .entry))) (P·Pair .disks (now (disks .exit))) pages r ⌝ }
+{
     let mut block = [0; 1024];
     let copy = scan(disks, pages, &mut block);
     let mut first = [0; 2048];
@@ -119,7 +124,9 @@ pub fn begin_recovery<P: Pair>(disks: &mut P, pages: u32) -> Option<Work> {
 }
 
 // A whole recovery. False: both disks are dead.
-pub fn recover<P: Pair>(disks: &mut P, pages: u32) -> bool {
+pub fn recover<P: Pair>(disks: &mut P, pages: u32) -> bool
+    ensures { λ r. ⌜ Recovered (P·Pair .disks (now (disks .entry))) (P·Pair .disks (now (disks .exit))) pages r ⌝ }
+{
     let Some(work) = begin_recovery(disks, pages) else {
         return false;
     };
