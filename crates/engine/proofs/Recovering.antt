@@ -153,13 +153,12 @@ begun-both s t u pages o kept p q r w scan fetch good is-copy is-block works d i
     let S : Both → Type 0 = λ v. Shows p (v .first .has) 0 in
     let C : Page → Type 0 = λ v. (copy-put o v ≡ highest 0 (d .first .has) (d .second .has)) × Copies o v (d .first .has) in
     let D : Option ℕ → Type 0 = λ v. (copy-put v (w .block) ≡ highest 0 (d .first .has) (d .second .has)) × Copies v (w .block) (d .first .has) in
-    let c = subst D (sym is-copy) (subst C (sym is-block) (h .1, h .2)) in
-    (
+    let c = subst D (sym is-copy) (subst C (sym is-block) (h .1, h .2)) in (
       d,
       y .1 ∙ ap (λ (v : Both). Some v) back,
       stays,
       begins-with d (d .first .has) w (highest 0 (d .first .has) (d .second .has)) (or-left (d .first .lives) (d .second .lives) (a .0)) (source-first d (a .0)) (both-resynced d (a .0) (a .1)) (c .0) (c .1)
-      (works (d .first .has) (subst S (h .0) (z .1)) (long .0)),
+          (works (d .first .has) (subst S (h .0) (z .1)) (long .0)),
     )
 
 -- one of them at most lives: it is gone by, and nothing is copied
@@ -200,8 +199,7 @@ begun-one s t u v pages o kept p q l r x w scan fetch bad read good none works d
     let b = fetch (a .0) (a .1) in
     let c = read (b .0) (b .1) in
     let f = ran-fewer refl (ran-more (a .2) (b .2)) in
-    let h = c .4 good in
-    (
+    let h = c .4 good in (
       c .0,
       c .1,
       ran-more (a .2) (ran-more (b .2) (c .2)),

@@ -53,8 +53,7 @@ pub piece-differs : (s t : Option Both) (from n i : ℕ) (p q : List ℕ) (r : B
 piece-differs s t from n i p q r was kept is fetch good some same d e =
     let f = fetch d e in
     let g = f .4 good in
-    let inside : i < blocks-in p q = some .1 in
-    (
+    let inside : i < blocks-in p q = some .1 in (
       f .0,
       f .1,
       f .2,

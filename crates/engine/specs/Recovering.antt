@@ -5,13 +5,12 @@
 -- the reads; from then on the other alone is gone by, and nothing is copied.
 use mathlib.Core.Path.{_≡_}
 use mathlib.Core.Bool.{Bool, true, false}
-use mathlib.Core.Logic.{_⊎_}
 use mathlib.Core.List.{List, [], _∷_}
 use Prim.Native.Nat.{ℕ, suc, _+_, _/_, _≤_, _<_, min}
 use lib.ListN.{length}
 use Rattle.std.specs.declared.option.Option.{Option}
 use Rattle.std.specs.declared.option.Option.the-variants.{None, Some}
-use Rattle.model.specs.Numbers.{page-size, first-page, most-pages, copies}
+use Rattle.model.specs.Numbers.{page-size, first-page}
 use Rattle.model.specs.Book.{Page, nth}
 use Rattle.model.specs.Disks.{seen}
 use Rattle.model.specs.Plain.{Put}
@@ -20,7 +19,7 @@ use Rattle.device.specs.Blocks.{block-of, Shows}
 use Rattle.device.specs.Ran.{Ran, Both, view, one-lives, both-live}
 use Rattle.journal.specs.Journal.{holds, recovery}
 use Rattle.journal.specs.Plans.{replays, plan-puts}
-use Rattle.promise.specs.Register.{recovery-writes, register}
+use Rattle.promise.specs.Register.{recovery-writes}
 use Rattle.engine.specs.declared.recover.Piece.{Piece}
 use Rattle.engine.specs.declared.recover.Piece.the-variants.{Dead, Same, Differs}
 use Rattle.engine.specs.declared.work.Work.{Work}
@@ -102,9 +101,3 @@ abbrev pub Recovered : Option Both → Option Both → ℕ → Bool → Type 0
 Recovered before after pages r =
     (d : Both) → before ≡ Some d → Of-pages pages d → Log-agrees d →
     (e f : Both) × Ran [] (view d) (view e) × (after ≡ Some f) × Ran (recovery-writes (seen (λ b. b) (view e))) (view e) (view f) × (r ≡ one-lives f)
-
--- making: every block of both disks, empty, for any number of pages that a register may have
-abbrev pub Makes : ℕ → Option Work → Type 0
-Makes pages None = (pages ≡ 0) ⊎ (most-pages < pages)
-Makes pages (Some w) =
-    (1 ≤ pages) × (pages ≤ most-pages) × ((b : List Page) → work-writes w b ≡ register .makes copies pages) × (replays (w .plan) ≡ false) × (w .copy ≡ None)
