@@ -1,20 +1,20 @@
 -- Recovery begun and done: what is worked out by header and list of the disk that is gone by is the model's
 -- recovery of the disks as they are then, wherever deaths led during the reads.
 use mathlib.Core.Path.{_≡_, refl, sym, ap, subst, _∙_}
-use mathlib.Core.Logic.{_⊎_, inl, inr}
-use mathlib.Core.Bool.{Bool, true, false, cond, _||_, _&&_}
+use mathlib.Core.Logic.{inl, inr}
+use mathlib.Core.Bool.{Bool, true, false, cond}
 use mathlib.Core.List.{List, [], _∷_, _++_, append-nil}
-use Prim.Native.Nat.{ℕ, zero, suc, _+_, _-_, _*_, _≤_, _<_}
+use Prim.Native.Nat.{ℕ, suc, _+_, _-_, _<_}
 use native.Mathlib.Omega.{arith}
 use borrow.Author.Tests.{ltb-true}
-use lib.Dec.{ltb, eqb}
+use lib.Dec.{eqb}
 use lib.ListN.{length, length-append}
 use Rattle.std.specs.declared.option.Option.{Option}
 use Rattle.std.specs.declared.option.Option.the-variants.{None, Some}
 use Rattle.std.proofs.shelf.Tests.{both-ways, and-parts, and-from, or-left, or-from}
 use Rattle.model.specs.Numbers.{first-page, copies}
 use Rattle.model.specs.Book.{Page, nth}
-use Rattle.model.specs.Disks.{Disk, On, on, View, killed-from, seen}
+use Rattle.model.specs.Disks.{On, View, killed-from, seen}
 use Rattle.model.specs.Plain.{Put}
 use Rattle.mirror.specs.Mirror.{mirrored, highest, source, all-on, resync}
 use Rattle.mirror.proofs.Resync.{highest-same}
@@ -31,9 +31,9 @@ use Rattle.device.specs.Ran.{Ran, stays, writes, dies, Both, view, one-lives, b
 use Rattle.device.proofs.Runs.{ran-more}
 use Rattle.promise.specs.Register.{recovery-writes}
 use Rattle.engine.specs.declared.work.Work.{Work}
-use Rattle.engine.specs.Works.{copy-writes, both-writes, work-writes}
-use Rattle.engine.specs.Doing.{Log-same, Copies, Finished}
-use Rattle.engine.specs.Recovering.{Of-pages, copy-put, Scanned, source-of, Works-out, Begins, Recovery-begun, Log-agrees, Recovered}
+use Rattle.engine.specs.Works.{copy-writes, work-writes}
+use Rattle.engine.specs.Doing.{Copies, Finished}
+use Rattle.engine.specs.Recovering.{Of-pages, copy-put, Scanned, source-of, Works-out, Begins, Recovery-begun, Recovered}
 use Rattle.engine.proofs.Doing.{ran-dead, both-dead}
 
 -- a log that doesn't hold has nothing to replay

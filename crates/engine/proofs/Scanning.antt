@@ -1,10 +1,10 @@
 -- The highest block in which two disks differ, found piece by piece from the lowest up, is the one that the
 -- model copies.
 use mathlib.Core.Path.{_≡_, refl, sym, ap, subst, _∙_}
-use mathlib.Core.Logic.{_⊎_, inl, inr}
-use mathlib.Core.Bool.{Bool, true, false, _&&_}
+use mathlib.Core.Logic.{inl, inr}
+use mathlib.Core.Bool.{Bool, true, false}
 use mathlib.Core.List.{List, [], _∷_}
-use Prim.Native.Nat.{ℕ, zero, suc, _+_, _-_, _*_, _/_, _≤_, _<_, min}
+use Prim.Native.Nat.{ℕ, zero, suc, _+_, _-_, _*_, _≤_, _<_}
 use native.Mathlib.Nat.{add-zero}
 use native.Mathlib.Omega.{arith}
 use lib.ListN.{length, take, length-take}
@@ -14,15 +14,13 @@ use Rattle.std.specs.declared.option.Option.the-variants.{None, Some}
 use Rattle.std.proofs.shelf.Tests.{both-ways, cases-lt}
 use Rattle.model.specs.Book.{Page, nth}
 use Rattle.model.specs.Promise.{same-page}
-use Rattle.model.specs.Plain.{Put}
 use Rattle.model.proofs.Lists.{same-page-refl, same-page-eq}
 use Rattle.mirror.specs.Mirror.{or-else, highest}
 use Rattle.device.specs.Blocks.{block-of, Shows}
-use Rattle.device.specs.Ran.{Ran, stays, Both, view, both-live, Fetched-both}
-use Rattle.engine.specs.declared.recover.Piece.{Piece}
+use Rattle.device.specs.Ran.{stays, Both, both-live, Fetched-both}
 use Rattle.engine.specs.declared.recover.Piece.the-variants.{Dead, Same, Differs}
 use Rattle.engine.specs.Doing.{Copies}
-use Rattle.engine.specs.Recovering.{Same-between, Highest, blocks-in, Piece-means, Piece-read, Read-through, Of-pages, copy-put, Scanned}
+use Rattle.engine.specs.Recovering.{Same-between, Highest, blocks-in, Piece-read, Read-through, copy-put, Scanned}
 
 -- what two pieces show of two disks
 module _ (p q : List ℕ) (xs ys : List Page) (from n : ℕ) (is : blocks-in p q ≡ n) (shows : Shows p xs from) (shows' : Shows q ys from) where

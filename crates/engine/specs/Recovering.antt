@@ -15,7 +15,7 @@ use Rattle.model.specs.Book.{Page, nth}
 use Rattle.model.specs.Disks.{seen}
 use Rattle.model.specs.Plain.{Put}
 use Rattle.mirror.specs.Mirror.{highest, source}
-use Rattle.device.specs.Blocks.{block-of, Shows}
+use Rattle.device.specs.Blocks.{Shows}
 use Rattle.device.specs.Ran.{Ran, Both, view, one-lives, both-live}
 use Rattle.journal.specs.Journal.{holds, recovery}
 use Rattle.journal.specs.Plans.{replays, plan-puts}
