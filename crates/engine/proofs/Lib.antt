@@ -4,3 +4,5 @@ pub mod LogKept
 pub mod Stepping
 pub mod Calling
 pub mod Living
+pub mod Scanning
+pub mod Recovering

@@ -2,3 +2,5 @@ pub mod Works
 pub mod Doing
 pub mod Calling
 pub mod Living
+pub mod Recovering
+pub mod Making

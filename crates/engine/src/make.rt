@@ -1,10 +1,13 @@
 // Making new disks: every block of both, empty.
+ghost use Rattle.engine.specs.Making.{Makes};
 use crate::work::Work;
 use journal::plan::Plan;
 use layout::places::Layout;
 
 // What making disks for so many pages writes; None where no register has so many.
-pub fn making(pages: u32) -> Option<Work> {
+pub fn making(pages: u32) -> Option<Work>
+    ensures { λ r. ⌜ Makes pages r ⌝ }
+{
     if pages == 0 || pages > Layout::MOST_PAGES {
         return None;
     }
