@@ -2,3 +2,4 @@ pub mod Writes
 pub mod Doing
 pub mod LogKept
 pub mod Stepping
+pub mod Calling
