@@ -14,7 +14,7 @@ use Rattle.std.specs.declared.option.Option.the-variants.{None, Some}
 use Rattle.model.specs.Numbers.{first-page, copies, page-size}
 use Rattle.model.specs.Book as book
 use Rattle.model.specs.Book.{Page, nth, Call, Limits, answer}
-use Rattle.model.specs.Promise.{thin}
+use Rattle.model.specs.Promise.{all}
 use Rattle.mirror.specs.Mirror.{mirrored}
 use Rattle.device.specs.Ran.{Ran, Both, view, one-lives}
 use Rattle.layout.specs.declared.log.Log.{Log}
@@ -28,9 +28,9 @@ use Rattle.engine.specs.declared.call.Reply.the-variants.{Refused, Done, Page 
 use Rattle.engine.specs.declared.call.Turn.{Turn}
 use Rattle.engine.specs.Works.{work-writes}
 
--- what this register can do, with so many pages
+-- this register does all calls, with so many pages
 abbrev pub limits : ℕ → Limits
-limits n = record { calls-can = thin; pages = n }
+limits n = record { calls-can = all; pages = n }
 
 -- all living disks have these blocks
 abbrev pub Agree : Both → List Page → Type 0

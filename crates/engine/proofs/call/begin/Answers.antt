@@ -12,7 +12,7 @@ use Rattle.wire.specs.Calls.{meant, call-of}
 use Rattle.wire.specs.declared.call.Call.{Call as Code-call}
 use Rattle.journal.specs.Admission.{early, In-bytes}
 use Rattle.engine.specs.Calling.{Turn-is}
-use Rattle.engine.proofs.Calling.{garbled-turn, refused-turn, early-refused, no-place, came-in-bytes, logs-call, begun-as, read-turn, page-was-read}
+use Rattle.engine.proofs.Calling.{garbled-turn, refused-turn, early-refused, no-place, came-in-bytes, logs-call, begun-as, read-turn, size-turn, page-was-read}
 use Rattle.engine.proofs.call.begin.Needs as need
 
 pub returns-in-Err : need.returns-in-Err
@@ -53,6 +53,16 @@ returns-else-not-read g c d is b agree len =
     , subst P (was ∙ c .in-Ok .ensures tt)
         (read-turn (c .args .pages) a b (c .read .last .out) (c .idle-in-Read .result) (ap (early (c .args .pages)) was ∙ f .0) (z .3 ∙ ap (book.nth b) (c .page .ensures))
           (c .idle-in-Read .ensures .reply) (c .idle-in-Read .ensures .plan) (c .idle-in-Read .ensures .copy)) )
+
+pub returns-in-Size : need.returns-in-Size
+returns-in-Size g c d is b agree len =
+    let f = c .in-Ok-admit .ensures tt in
+    let was : book.size ≡ meant (c .in-Ok .call) = ap (λ (x : Code-call). meant x) (sym (c .in-Size .is)) ∙ f .1 in
+    let P : Call → Type 0 = λ x. Turn-is (c .args .pages) b x (c .args .page .now) (c .idle-in-Size .result) in
+    ( d, is, stays
+    , subst P (was ∙ c .in-Ok .ensures tt)
+        (size-turn (c .args .pages) b (c .args .page .now) (c .idle-in-Size .result) (ap (early (c .args .pages)) was ∙ f .0)
+          (c .idle-in-Size .ensures .reply) (c .idle-in-Size .ensures .plan) (c .idle-in-Size .ensures .copy)) )
 
 pub returns-in-Write : need.returns-in-Write
 returns-in-Write g c =
