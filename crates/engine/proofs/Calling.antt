@@ -108,10 +108,12 @@ idle-writes w b e f =
 pub idle-turn : (n : ℕ) (b : List Page) (c : Call) (page : Page) (t : Turn) (r : Reply) → t .reply ≡ r → t .work .plan ≡ Nothing → t .work .copy ≡ None →
     reply-means r page ≡ answer (limits n) (book-of b) c → [] ≡ puts-of (limits n) b c → Turn-is n b c page t
 unfolding mirrored
-idle-turn n b c page t r e f g a p =
-    ( ap (λ (x : Reply). reply-means x page) e ∙ a
-    , idle-writes (t .work) b f g ∙ ap (mirrored copies) p
-    , g, inl f )
+idle-turn n b c page t r e f g a p = (
+  ap (λ (x : Reply). reply-means x page) e ∙ a,
+  idle-writes (t .work) b f g ∙ ap (mirrored copies) p,
+  g,
+  inl f,
+)
 
 -- bytes that are no call
 pub garbled-turn : (n k : ℕ) (b : List Page) (page : Page) (t : Turn) (c : Call) → c ≡ book.garbled k → t .reply ≡ Refused (NotACall k) → t .work .plan ≡ Nothing → t .work .copy ≡ None →
@@ -174,10 +176,12 @@ pub logged-turn : (n : ℕ) (b : List Page) (c : Call) (page : Page) (t : Turn) 
 logged-turn n b c page t k p list block ok logs e f l has puts ls done plan alone lists blocks =
     let q : turned (limits n) (book-of b) c ≡ 0 = turned-late n b c ok e ∙ ap (λ x. late x c) f ∙ l in
     let P : Option ℕ → Type 0 = λ o. copy-writes o (t .work .block) ++ both-writes (t .work) b ≡ mirrored copies (puts-of (limits n) b c) in
-    let same : plan-puts (t .work .plan) (t .work .block) b ≡ plan-puts p block b = ap (λ (x : Plan). plan-puts x (t .work .block) b) plan ∙ ap (λ (x : Page). plan-puts p x b) blocks in
-    ( ap (λ (x : Reply). reply-means x page) done ∙ sym (told-done n b c logs) ∙ taken-answer n b c ok q
-    , subst P (sym alone) (ap (mirrored copies) (same ∙ puts b block f (carried n c block e has) ∙ taken-puts n b c ok q))
-    , alone, inr (ls ∙ sym lists) )
+    let same : plan-puts (t .work .plan) (t .work .block) b ≡ plan-puts p block b = ap (λ (x : Plan). plan-puts x (t .work .block) b) plan ∙ ap (λ (x : Page). plan-puts p x b) blocks in (
+      ap (λ (x : Reply). reply-means x page) done ∙ sym (told-done n b c logs) ∙ taken-answer n b c ok q,
+      subst P (sym alone) (ap (mirrored copies) (same ∙ puts b block f (carried n c block e has) ∙ taken-puts n b c ok q)),
+      alone,
+      inr (ls ∙ sym lists),
+    )
 
 -- a call that came in bytes
 not-garbled : (c : Code-call) (k : ℕ) → meant c ≡ book.garbled k → ⊥

@@ -3,3 +3,4 @@ pub mod Doing
 pub mod LogKept
 pub mod Stepping
 pub mod Calling
+pub mod Living

@@ -1,3 +1,4 @@
 pub mod Works
 pub mod Doing
 pub mod Calling
+pub mod Living

@@ -11,6 +11,7 @@ ghost use mathlib.Core.Bool.{true};
 ghost use Rattle.journal.specs.declared.plan.Plan.the-variants.{Nothing};
 ghost use Rattle.journal.specs.Plans.{fits};
 ghost use Rattle.engine.specs.Calling.{Begun, Log-read, Carries, Logs, Answered};
+ghost use Rattle.engine.specs.Living.{Answer-lives};
 use crate::perform::finish;
 use crate::work::Work;
 use device::mirror::Pair;
@@ -46,7 +47,15 @@ fn idle(reply: Reply) -> Turn
     ensures plan { λ r. ⌜ r .work .plan ≡ Nothing ⌝ }
     ensures copy { λ r. ⌜ r .work .copy ≡ None ⌝ }
 {
-    Turn { reply, work: Work { copy: None, plan: Plan::Nothing, list: NOTHING, block: NOTHING } }
+    Turn {
+        reply,
+        work: Work {
+            copy: None,
+            plan: Plan::Nothing,
+            list: NOTHING,
+            block: NOTHING,
+        },
+    }
 }
 
 // A call that is done when this is written.
@@ -58,7 +67,15 @@ fn writing(plan: Plan, list: [u8; 1024], block: [u8; 1024]) -> Turn
     ensures list { λ r. ⌜ r .work .list ≡ list ⌝ }
     ensures block { λ r. ⌜ r .work .block ≡ block ⌝ }
 {
-    Turn { reply: Reply::Done, work: Work { copy: None, plan, list, block } }
+    Turn {
+        reply: Reply::Done,
+        work: Work {
+            copy: None,
+            plan,
+            list,
+            block,
+        },
+    }
 }
 
 // Reads the log's header and list, as at one moment: both stand in the one read. None: both disks are dead.
@@ -87,7 +104,12 @@ fn given(call: Call<'_>) -> [u8; 1024]
 }
 
 // A call that asks for the log: a write or a close.
-fn begin_logged<P: Pair>(disks: &mut P, pages: u32, call: Call<'_>, page: &[u8; 1024]) -> Option<Turn>
+fn begin_logged<P: Pair>(
+    disks: &mut P,
+    pages: u32,
+    call: Call<'_>,
+    page: &[u8; 1024],
+) -> Option<Turn>
     requires { ⌜ early pages (meant call) ≡ 0 ⌝ ∗ ⌜ In-bytes (meant call) ⌝ ∗ ⌜ Logs (meant call) ⌝ }
     ensures { λ r. ⌜ Begun (P·Pair .disks (now (disks .entry))) (P·Pair .disks (now (disks .exit))) pages (meant (call .entry)) (now (page .entry)) r ⌝ }
 {
@@ -104,7 +126,12 @@ fn begin_logged<P: Pair>(disks: &mut P, pages: u32, call: Call<'_>, page: &[u8; 
 
 // Begins a call: works out its answer and all that it writes. A page that is read is put into `page`.
 // None: both disks are dead.
-pub fn begin<P: Pair>(disks: &mut P, pages: u32, bytes: &[u8], page: &mut [u8; 1024]) -> Option<Turn>
+pub fn begin<P: Pair>(
+    disks: &mut P,
+    pages: u32,
+    bytes: &[u8],
+    page: &mut [u8; 1024],
+) -> Option<Turn>
     ensures { λ r. ⌜ Begun (P·Pair .disks (now (disks .entry))) (P·Pair .disks (now (disks .exit))) pages (call-of (now (bytes .entry))) (now (page .exit)) r ⌝ }
 {
     let call = match call::decode(bytes) {
@@ -128,8 +155,18 @@ pub fn begin<P: Pair>(disks: &mut P, pages: u32, bytes: &[u8], page: &mut [u8; 1
 }
 
 // A whole call. The answer is told only here, after the last write. None: both disks are dead.
-pub fn answer<P: Pair>(disks: &mut P, pages: u32, bytes: &[u8], page: &mut [u8; 1024]) -> Option<Reply>
-    ensures { λ r. ⌜ Answered (P·Pair .disks (now (disks .entry))) (P·Pair .disks (now (disks .exit))) pages (call-of (now (bytes .entry))) (now (page .exit)) r ⌝ }
+//
+// On disks of which all is known, at rest and reachable, it leads to disks that are reachable, with the answer
+// in their past, and some book explains all that was ever answered: that is the register's main promise, on
+// the call that programs make.
+pub fn answer<P: Pair>(
+    disks: &mut P,
+    pages: u32,
+    bytes: &[u8],
+    page: &mut [u8; 1024],
+) -> Option<Reply>
+    ensures told { λ r. ⌜ Answered (P·Pair .disks (now (disks .entry))) (P·Pair .disks (now (disks .exit))) pages (call-of (now (bytes .entry))) (now (page .exit)) r ⌝ }
+    ensures lives { λ r. ⌜ Answer-lives (P·Pair .disks (now (disks .entry))) (P·Pair .disks (now (disks .exit))) pages (call-of (now (bytes .entry))) (now (page .exit)) r ⌝ }
 {
     let Some(turn) = begin(disks, pages, bytes, page) else {
         return None;
