@@ -37,3 +37,10 @@ By-life n c page hs e (Some r) = Reached n e (was-told c (reply-means r page) �
 abbrev pub Answer-lives : Option Both → Option Both → ℕ → Call → Page → Option Reply → Type 0
 Answer-lives before after n c page r =
     (d : Both) (hs : List Happening) → before ≡ Some d → Good-size (limits n) → Reached n d hs → (e : Both) × (after ≡ Some e) × By-life n c page hs e r
+
+-- after power went in a world that can be reached, recovery leads to disks at rest that can be reached, with
+-- the same past; unless both disks died
+abbrev pub Recovery-lives : Option Both → Option Both → ℕ → Bool → Type 0
+Recovery-lives before after n r =
+    (d : Both) (w : World (List Page) Put) → before ≡ Some d → Good-size (limits n) → Lived plain register (limits n) w → w .up ≡ false → w .disks ≡ view d →
+    (f : Both) × (after ≡ Some f) × (r ≡ one-lives f) × (r ≡ true → Reached n f (w .past))

@@ -8,6 +8,7 @@ ghost use Prim.Native.Nat.{_+_, _*_, _<_, _≤_};
 ghost use lib.ListN.{length};
 ghost use Rattle.std.specs.Options.{Cases as BySome};
 ghost use Rattle.device.specs.Blocks.{block-of};
+ghost use Rattle.engine.specs.Living.{Recovery-lives};
 ghost use Rattle.engine.specs.Recovering.{Highest, blocks-in, Piece-read, Scanned, Works-out, Recovery-begun, Recovered};
 use crate::perform::finish;
 use crate::work::Work;
@@ -125,7 +126,8 @@ pub fn begin_recovery<P: Pair>(disks: &mut P, pages: u32) -> Option<Work>
 
 // A whole recovery. False: both disks are dead.
 pub fn recover<P: Pair>(disks: &mut P, pages: u32) -> bool
-    ensures { λ r. ⌜ Recovered (P·Pair .disks (now (disks .entry))) (P·Pair .disks (now (disks .exit))) pages r ⌝ }
+    ensures done { λ r. ⌜ Recovered (P·Pair .disks (now (disks .entry))) (P·Pair .disks (now (disks .exit))) pages r ⌝ }
+    ensures lives { λ r. ⌜ Recovery-lives (P·Pair .disks (now (disks .entry))) (P·Pair .disks (now (disks .exit))) pages r ⌝ }
 {
     let Some(work) = begin_recovery(disks, pages) else {
         return false;
