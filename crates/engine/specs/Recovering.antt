@@ -50,7 +50,7 @@ abbrev pub Piece-read : Option Both → Option Both → ℕ → ℕ → Piece �
 Piece-read before after from n r was kept =
     (d : Both) → before ≡ Some d → (e : Both) × (after ≡ Some e) × Ran [] (view d) (view e) × Piece-means d e from n r was kept
 
--- the first n blocks read, and both disks live if any was
+-- the first n blocks read by now; where one of the disks was dead from the start, nothing is to be copied
 abbrev pub Read-through : Option Both → Option Both → ℕ → Option ℕ → Page → Type 0
 Read-through before after n r kept =
     (d : Both) → before ≡ Some d →
