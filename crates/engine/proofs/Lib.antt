@@ -6,3 +6,4 @@ pub mod Calling
 pub mod Living
 pub mod Scanning
 pub mod Recovering
+pub mod Made

@@ -110,7 +110,7 @@ answer-lives s t n c page (Some r) told d hs is size lived =
     (f .0, f .1, (on, explained n size (f .0) (was-told c (reply-means r page) ∷ hs) on))
 
 -- a disk keeps its length, also when it is dead
-abbrev Long : ℕ → ℕ → Known → Type 0
+abbrev pub Long : ℕ → ℕ → Known → Type 0
 Long n i d = length (d .has) ≡ n
 
 one-long : (n : ℕ) (t : Bool) (x : Put) (d : Known) → length (d .has) ≡ n → length (cond t (wrote-one put x d) d .has) ≡ n
@@ -121,7 +121,7 @@ one-long n true x d e = go (d .lives)
     go true = length-set-page (d .has) (x .block) (x .content) ∙ e
     go false = e
 
-long-wrote : (n : ℕ) (w : On Put) (v : View) → Each (Long n) 0 v → Each (Long n) 0 (wrote put w v)
+pub long-wrote : (n : ℕ) (w : On Put) (v : View) → Each (Long n) 0 v → Each (Long n) 0 (wrote put w v)
 long-wrote n w v e = each-wrote put w (Long n) (Long n) (λ j d h. one-long n (eqb j (w .disk)) (w .item) d h) 0 v e
 
 long-wrote-all : (n : ℕ) (ws : List (On Put)) (v : View) → Each (Long n) 0 v → Each (Long n) 0 (wrote-all put ws v)

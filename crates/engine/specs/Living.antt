@@ -15,6 +15,7 @@ use Rattle.promise.specs.Register.{register}
 use Rattle.device.specs.Ran.{Both, view, one-lives}
 use Rattle.engine.specs.declared.call.Reply.{Reply}
 use Rattle.engine.specs.Calling.{limits, reply-means}
+use Rattle.engine.specs.Recovering.{Of-pages}
 
 -- a world in which nothing is under way, with these disks and this past
 abbrev pub resting : View → List Happening → World (List Page) Put
@@ -44,3 +45,9 @@ abbrev pub Recovery-lives : Option Both → Option Both → ℕ → Bool → Typ
 Recovery-lives before after n r =
     (d : Both) (w : World (List Page) Put) → before ≡ Some d → Good-size (limits n) → Lived plain register (limits n) w → w .up ≡ false → w .disks ≡ view d →
     (f : Both) × (after ≡ Some f) × (r ≡ one-lives f) × (r ≡ true → Reached n f (w .past))
+
+-- making leads from any disks of the right length to disks at rest that can be reached, with an empty past;
+-- unless both disks died
+abbrev pub Making-lives : Option Both → Option Both → ℕ → Bool → Type 0
+Making-lives before after n r =
+    (d : Both) → before ≡ Some d → Good-size (limits n) → Of-pages n d → (e : Both) × (after ≡ Some e) × (r ≡ one-lives e) × (r ≡ true → Reached n e [])
