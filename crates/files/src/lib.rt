@@ -6,6 +6,5 @@
 // is never asked again, and that nothing else is touched.
 pub mod descriptor;
 pub mod disk;
-pub mod identity;
 pub mod making;
 pub mod span;

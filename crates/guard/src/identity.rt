@@ -1,5 +1,5 @@
 // Which file a name or a descriptor leads to, whatever it is called: its device and its number there.
-use crate::descriptor::Descriptor;
+use files::descriptor::Descriptor;
 
 #[derive(Clone, Copy, PartialEq, Eq, Debug)]
 pub struct Identity {
