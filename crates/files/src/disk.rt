@@ -4,10 +4,11 @@
 // sync the system may forget what it could not write, and report success at the next.
 ghost use mathlib.Core.Path.{_≡_};
 ghost use mathlib.Core.Bool.{true, false};
-ghost use Prim.Native.Nat.{_+_, _≤_};
+ghost use Prim.Native.Nat.{_+_, _≤_, min};
 ghost use Rattle.std.specs.declared.option.Option.the-variants.{None};
 ghost use Rattle.model.specs.Numbers.{first-page, most-pages};
 use crate::descriptor::Descriptor;
+use crate::span::at_most;
 use crate::span::on_disk;
 use crate::span::place;
 use device::Device;
@@ -47,15 +48,14 @@ fn clear_from(out: &mut [u8], at: usize) {
 }
 
 impl FileDisk {
-    // A disk of so many blocks, which is all that the file has.
+    // A disk of so many blocks in a file that has them. No disk has more than the layout allows.
     pub fn new(file: Descriptor, blocks: u64) -> FileDisk
-        requires { ⌜ blocks ≤ most-pages + first-page ⌝ }
-        ensures blocks { λ r. ⌜ r .blocks ≡ blocks ⌝ }
+        ensures blocks { λ r. ⌜ r .blocks ≡ min blocks (most-pages + first-page) ⌝ }
         ensures alive { λ r. ⌜ r .alive ≡ true ⌝ }
     {
         FileDisk {
             file,
-            blocks,
+            blocks: at_most(blocks),
             alive: true,
             fault: None,
         }

@@ -5,11 +5,12 @@
 // that nothing takes for a register.
 ghost use mathlib.Core.Path.{_≡_};
 ghost use mathlib.Core.Bool.{true, false};
-ghost use Prim.Native.Nat.{_+_, _≤_};
+ghost use Prim.Native.Nat.{_+_, _≤_, min};
 ghost use Rattle.std.specs.declared.option.Option.the-variants.{None};
 ghost use Rattle.std.specs.Of.Vec.{vec-items};
 ghost use Rattle.model.specs.Numbers.{first-page, most-pages};
 use crate::descriptor::Descriptor;
+use crate::span::at_most;
 use crate::span::file_length;
 use crate::span::place;
 use device::Device;
@@ -35,21 +36,20 @@ pub struct NewDisk {
 }
 
 impl NewDisk {
-    // Begins a disk of so many blocks in a file that is empty.
+    // Begins a disk of so many blocks in a file that is empty. No disk has more than the layout allows.
     pub fn begin(heap: Global, file: Descriptor, blocks: u64) -> NewDisk
-        requires { ⌜ blocks ≤ most-pages + first-page ⌝ }
-        ensures { λ r. ⌜ r .blocks ≡ blocks ⌝ }
+        ensures { λ r. ⌜ r .blocks ≡ min blocks (most-pages + first-page) ⌝ }
     {
         let mut disk = NewDisk {
             file,
-            blocks,
+            blocks: at_most(blocks),
             first: 0,
             next: 0,
             run: Vec::new(heap),
             alive: true,
             error: 0,
         };
-        let begun = disk.file.set_len(file_length(blocks) + 1);
+        let begun = disk.file.set_len(file_length(disk.blocks) + 1);
         disk.settle(begun);
         disk
     }

@@ -6,6 +6,13 @@ ghost use Rattle.std.specs.Options.{Cases as BySome};
 ghost use Rattle.model.specs.Numbers.{first-page, most-pages, page-size};
 use layout::places::Layout;
 
+// So many blocks, or as many as a disk may have.
+pub fn at_most(blocks: u64) -> u64
+    ensures { λ r. ⌜ r ≡ min blocks (most-pages + first-page) ⌝ }
+{
+    blocks.min(Layout::blocks(Layout::MOST_PAGES))
+}
+
 // Where a block begins in the file of a disk of so many blocks; None past the disk's end.
 pub fn place(blocks: u64, block: u64) -> Option<i64>
     requires { ⌜ blocks ≤ most-pages + first-page ⌝ }

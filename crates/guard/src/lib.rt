@@ -4,9 +4,11 @@
 // newer ones. So a death is noted beside the disk that goes on, and beside the dead one where that can be
 // done, before anything else is written or answered.
 pub mod identity;
+pub mod inspect;
 pub mod marks;
 pub mod names;
 pub mod others;
 pub mod pair;
 pub mod part;
+pub mod progress;
 pub mod when;

@@ -10,6 +10,7 @@ use crate::marks::note_death;
 use crate::part::Put;
 use crate::part::PutDisplay;
 use crate::part::side_name;
+use crate::progress::Progress;
 use crate::when;
 use crate::when::MomentDisplay;
 use device::Device;
@@ -42,6 +43,8 @@ pub struct FilePair {
     first_gone: bool,
     second_gone: bool,
     trace: bool,
+    // How far a reading of both disks is.
+    progress: Option<Progress>,
 }
 
 // Why a disk died, in words.
@@ -97,7 +100,13 @@ impl FilePair {
             first_gone,
             second_gone,
             trace,
+            progress: None,
         }
+    }
+
+    // Begins a reading of both disks, of so many blocks, whose progress is told.
+    pub fn watch(&mut self, blocks: u64) {
+        self.progress = Some(Progress::new(self.rt, "block", blocks));
     }
 
     // Whether a disk lives.
@@ -118,7 +127,7 @@ impl FilePair {
     }
 
     // Notes the death of a disk beside the other. False: that can't be done, and both are given up.
-    fn note(&mut self, side: Side, text: &str) -> bool {
+    pub fn note(&mut self, side: Side, text: &str) -> bool {
         let noted = match side {
             Side::First => note_death(&self.rt, &self.second_name, &self.first_name, text),
             Side::Second => note_death(&self.rt, &self.first_name, &self.second_name, text),
@@ -183,6 +192,9 @@ pub impl Pair for FilePair as FilePairPair {
     }
 
     fn read_both(&mut self, from: u64, first: &mut [u8], second: &mut [u8]) -> bool {
+        if let Some(progress) = &mut self.progress {
+            progress.step(from);
+        }
         let done = self.both.read_both(from, first, second);
         self.settle() && done
     }
