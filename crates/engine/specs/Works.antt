@@ -13,7 +13,8 @@ use Rattle.mirror.specs.Mirror.{mirrored}
 use Rattle.device.specs.declared.mirror.Side.{Side}
 use Rattle.device.specs.declared.mirror.Side.the-variants.{First, Second}
 use Rattle.device.specs.Ran.{side-number}
-use Rattle.journal.specs.Plans.{Placed, content, plan-puts}
+use Rattle.journal.specs.Plans.{Placed, Reads-log, content, plan-puts}
+use Rattle.journal.specs.declared.plan.Plan.{Plan}
 use Rattle.engine.specs.declared.write.WriteKind.{WriteKind}
 use Rattle.engine.specs.declared.write.WriteKind.the-variants.{Copied, Journal}
 use Rattle.engine.specs.declared.write.Write.{Write}
@@ -35,9 +36,14 @@ abbrev pub Kind-placed : WriteKind → Type 0
 Kind-placed Copied = Unit {0}
 Kind-placed (Journal k) = Placed k
 
-abbrev pub Well-placed : Option Write → Type 0
-Well-placed None = Unit {0}
-Well-placed (Some w) = Kind-placed (w .kind)
+abbrev pub Kind-reads : Plan → WriteKind → Type 0
+Kind-reads q Copied = Unit {0}
+Kind-reads q (Journal k) = Reads-log q k
+
+-- a write whose kind has its place, and reads the log only where the plan replays it
+abbrev pub Well-placed : Plan → Option Write → Type 0
+Well-placed q None = Unit {0}
+Well-placed q (Some w) = Kind-placed (w .kind) × Kind-reads q (w .kind)
 
 -- the copy goes on the second disk alone
 abbrev pub copy-writes : Option ℕ → Page → List (On Put)

@@ -42,7 +42,7 @@ fn side_of(k: u64) -> Side
 // The k-th write of what goes on both disks: each step on the first, and then on the second.
 fn mirrored_write(work: &Work, k: u64) -> Option<Write>
     ensures value { λ r. ⌜ ((b : List Page) → nth b 1 ≡ now (work .entry) .list → mapped (write-means (now (work .entry) .block) b) r ≡ item (both-writes (now (work .entry)) b) k) ⌝ }
-    ensures placed { λ r. ⌜ Well-placed r ⌝ }
+    ensures placed { λ r. ⌜ Well-placed (now (work .entry) .plan) r ⌝ }
 {
     let Some(step) = work.plan.step(&work.list, k / 2) else {
         return None;
@@ -66,7 +66,7 @@ impl Work {
     // The k-th write, None past the last.
     pub fn write(&self, k: u64) -> Option<Write>
         ensures value { λ r. ⌜ ((b : List Page) → nth b 1 ≡ now (self .entry) .list → mapped (write-means (now (self .entry) .block) b) r ≡ item (work-writes (now (self .entry)) b) k) ⌝ }
-        ensures placed { λ r. ⌜ Well-placed r ⌝ }
+        ensures placed { λ r. ⌜ Well-placed (now (self .entry) .plan) r ⌝ }
     {
         let Some(block) = self.copy else {
             return mirrored_write(self, k);

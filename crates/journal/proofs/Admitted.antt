@@ -35,9 +35,9 @@ refusals-are l b close k h = simp k
 refusals-are l b size k h = simp k
 refusals-are l b (garbled n) k h = refl
 
-pub write-planned : (b : List Page) (n page : ℕ) (p : Page) → count b ≡ n → plan-puts (Write n page) p b ≡ call-puts b (write page p)
+pub write-planned : (b : List Page) (n page : ℕ) (given p : Page) → count b ≡ n → given ≡ p → plan-puts (Write n page) given b ≡ call-puts b (write page p)
 unfolding call-puts
-write-planned b n page p e = rw (sym e)
+write-planned b n page given p e f = rw (sym e, f)
 
 pub close-planned : (b : List Page) (n : ℕ) (p : Page) → count b ≡ n → plan-puts (Close n) p b ≡ call-puts b close
 unfolding call-puts

@@ -2,7 +2,7 @@
 -- power goes on the way, a book explains that the call was cut; when all is put, a book explains that it
 -- was answered, and the disk shows that book.
 use mathlib.Core.Path.{_≡_, refl, sym, ap, subst, _∙_}
-use mathlib.Core.Logic.{_≢_}
+use mathlib.Core.Logic.{inl, _≢_}
 use mathlib.Core.Bool.{Bool, true, false, cond, _&&_, _||_}
 use mathlib.Core.List.{List, [], _∷_}
 use Prim.Native.Nat.{ℕ, suc, _+_, _≤_, _<_}
@@ -20,10 +20,10 @@ use Rattle.model.proofs.Puts.{Within, within-all}
 use Rattle.model.proofs.Safely.{Safely}
 use Rattle.layout.specs.PageList.{listed}
 use Rattle.layout.specs.Header.{flag-in, holds-in, count-in}
-use Rattle.layout.proofs.Blocks.{good-header, count-empty, flag-empty, listed-empty, good-empty}
+use Rattle.layout.proofs.Blocks.{count-empty, flag-empty, listed-empty, good-empty}
 use Rattle.journal.specs.Journal.{holds, count, entries-from, entries, header-put, recovery, call-puts, book-of, puts-of}
-use Rattle.journal.proofs.Log.{puts-from, entries-high, entries-same, committed, committed-held, committed-free, Allowed, Sound, holds-is, count-is, count-few, header-other, header-from, header-sound, header-holds, header-count, replayed, recovers}
-use Rattle.journal.proofs.Logged.{b₃, good-list, sound₁, sound₂, sound₃, holds₁, holds₂, holds₃, count₃, from₁, from₂, from₃, new₃}
+use Rattle.journal.proofs.Log.{puts-from, entries-high, entries-same, committed, committed-held, committed-free, Allowed, Sound, holds-is, count-is, count-few, header-other, header-from, header-sound, header-holds, header-count, header-allowed, replayed, recovers}
+use Rattle.journal.proofs.Logged.{b₃, allowed₁, allowed₂, allowed₃, sound₁, sound₂, sound₃, holds₁, holds₂, holds₃, count₃, from₁, from₂, from₃, new₃}
 
 -- a disk at rest shows a book
 pub record Shows (n : ℕ) (k : Book) (b : List Page) : Type 0 where
@@ -186,7 +186,7 @@ module _ (l : Limits) (bounded : l .pages ≤ most-pages) (o : Book) (hs : List 
       puts-from (entries b) b′ b (entries-high b 0 (count b)) (header-from n b s true (count b) few) ∙ r .shows .new-is ∙ sym ol in
       let c : committed b′ ≡ after l k close .old = committed-held b′ h′ ∙ ap (λ x. from-block first-page (puts x b′)) es ∙ f in (
         cut-before close b s here,
-        ((omega arith, good-header true (count b)), λ h _. absurd (omega arith)),
+        header-allowed n b s true (count b) few (inl (r .shows .free)),
         replayed n (Recoverable l o (was-cut close ∷ hs)) (Ready l o (was-told close (answer l (book-of b) close) ∷ hs)) (after l k close .old)
             (cut-after close)
             (λ x sx hx zx fx. record { book = after l k close; explains = told-on close; shows = emptied-shows n (after l k close) x w z sx hx zx fx })
@@ -203,13 +203,13 @@ module _ (l : Limits) (bounded : l .pages ≤ most-pages) (o : Book) (hs : List 
       let cut-on : (x : List Page) → Sound n x → holds x ≡ false → from-block first-page x ≡ from-block first-page b → Recoverable l o (was-cut (write a p) ∷ hs) x =
       λ x sx hx fx. cut-before (write a p) x sx (committed-free x hx ∙ fx ∙ r .shows .old-is) in (
         cut-before (write a p) b s here,
-        ((omega arith, good-header false (suc (count b))), λ h _. absurd (omega arith)),
+        allowed₁ n b s hc a ha small p hp (r .shows .free),
         (
           cut-on _ (sound₁ n b s hc a ha small p hp) (holds₁ n b s hc a ha small p hp) (from₁ n b s hc a ha small p hp),
-          ((omega arith, good-list n b s hc a ha small p hp), λ _ _. holds₁ n b s hc a ha small p hp),
+          allowed₂ n b s hc a ha small p hp,
           (
             cut-on _ (sound₂ n b s hc a ha small p hp) (holds₂ n b s hc a ha small p hp) (from₂ n b s hc a ha small p hp),
-            ((omega arith, hp), λ _ _. holds₂ n b s hc a ha small p hp),
+            allowed₃ n b s hc a ha small p hp,
             (
               cut-on _ (sound₃ n b s hc a ha small p hp) (holds₃ n b s hc a ha small p hp) (from₃ n b s hc a ha small p hp),
               record {

@@ -5,7 +5,7 @@
 -- On a sound disk every slot of the list names a page of the book, also beyond the log's end: so the
 -- header is always read as it was written, whichever of the two blocks was written last.
 use mathlib.Core.Path.{_≡_, refl, sym, ap, subst, _∙_}
-use mathlib.Core.Logic.{inl, inr}
+use mathlib.Core.Logic.{_⊎_, inl, inr}
 use mathlib.Core.Bool.{Bool, true, false, cond}
 use mathlib.Core.List.{List, [], _∷_, _++_}
 use Prim.Native.Nat.{ℕ, zero, suc, _+_, _≤_, _<_}
@@ -106,7 +106,7 @@ entries-low n b c s t h =
     ap (entries-from b 0) (count-same n b c s t (h 0 (omega arith)))
     ∙ entries-same b c 0 (count c) (λ j q. ap (λ x. listed x j) (h 1 (omega arith))) (λ j q. h (2 + j) (omega arith))
 
-high-low : (m : Put) (b : List Page) → High m → Low-same (put m b) b
+pub high-low : (m : Put) (b : List Page) → High m → Low-same (put m b) b
 high-low m b h j l = nth-set-other b (m .block) j (m .content) (omega (arith, h .1))
 
 -- what a disk stands for
@@ -125,9 +125,13 @@ committed-free b h = ap (from-block first-page) (cond-false _ _ _ h)
 abbrev pub Fits : ℕ → Put → Type 0
 Fits n m = (m .block < n + first-page) × (good-page (m .content) ≡ true)
 
--- what may be put next: list and log only while the log doesn't hold
-abbrev pub Allowed : ℕ → List Page → Put → Type 0
-Allowed n b m = Fits n m × (0 < m .block → m .block < first-page → holds b ≡ false)
+-- what may be put next: list and log only while the log doesn't hold; a page only while it holds, and only
+-- as the log has it; the header in such a way that the log doesn't hold before or doesn't after
+pub record Allowed (n : ℕ) (b : List Page) (m : Put) : Type 0 where
+  pub fits : Fits n m
+  pub to-log : 0 < m .block → m .block < first-page → holds b ≡ false
+  pub to-page : first-page ≤ m .block → (holds b ≡ true) × In m (entries b)
+  pub to-header : m .block ≡ 0 → (holds b ≡ false) ⊎ (holds (put m b) ≡ false)
 
 fits-in : (n : ℕ) (b : List Page) (i c : ℕ) (m : Put) → Sound n b → i + c ≤ room → In m (entries-from b i c) → Fits n m
 unfolding entries-from
@@ -152,17 +156,25 @@ module _ (n : ℕ) (b : List Page) (m : Put) (s : Sound n b) (i : In m (entries 
   pub entry-high : High m
   entry-high = high-in (entries b) m (entries-high b 0 (count b)) i
 
-  pub entry-fits : Fits n m
+  entry-fits : Fits n m
   entry-fits = fits-in n b 0 (count b) m s (rw zero-add (count-few n b s)) i
 
   pub replayed-sound : Sound n (put m b)
   replayed-sound = high-sound n m b entry-fits entry-high s
 
-  replayed-holds : holds (put m b) ≡ holds b
+  pub replayed-holds : holds (put m b) ≡ holds b
   replayed-holds = holds-same n (put m b) b replayed-sound s (high-low m b entry-high 0 (omega arith))
 
-  replayed-entries : entries (put m b) ≡ entries b
+  pub replayed-entries : entries (put m b) ≡ entries b
   replayed-entries = entries-low n (put m b) b replayed-sound s (high-low m b entry-high)
+
+  entry-allowed : holds b ≡ true → Allowed n b m
+  entry-allowed h = record {
+    fits = entry-fits;
+    to-log = λ _ q. absurd (omega (arith, entry-high .1));
+    to-page = λ _. (h, i);
+    to-header = λ q. absurd (omega (arith, entry-high .1));
+  }
 
   replayed-committed : holds b ≡ true → committed (put m b) ≡ committed b
   replayed-committed h =
@@ -200,6 +212,14 @@ module _ (n : ℕ) (b : List Page) (s : Sound n b) (t : Bool) (c : ℕ) (l : c �
   pub header-count : count (put (header-put t c) b) ≡ c
   header-count = count-is n (put (header-put t c) b) header-sound ∙ header-count-in
 
+  pub header-allowed : (holds b ≡ false) ⊎ (t ≡ false) → Allowed n b (header-put t c)
+  header-allowed h = record {
+    fits = (omega arith, good-header t c);
+    to-log = λ x _. absurd (omega arith);
+    to-page = λ x. absurd (omega arith);
+    to-header = λ _. elim h [ inl e ↦ inl e | inr e ↦ inr (header-holds ∙ e) ];
+  }
+
 -- the log's pages go to their places and the header is emptied: all the way the disk stands for X, and
 -- then X stands among the pages
 module _ (n : ℕ) (P Q : List Page → Type 0) (X : List Page)
@@ -210,7 +230,7 @@ module _ (n : ℕ) (P Q : List Page → Type 0) (X : List Page)
       let hs = header-sound n b s false 0 (omega arith) in
       let hh = header-holds n b s false 0 (omega arith) in
       let hf : from-block first-page (put (header-put false 0) b) ≡ X = header-from n b s false 0 (omega arith) ∙ f in
-      (good b s c, ((omega arith, good-header false 0), λ h _. absurd (omega arith)), (good _ hs (committed-free _ hh ∙ hf), last _ hs hh (header-count n b s false 0 (omega arith)) hf))
+      (good b s c, header-allowed n b s false 0 (omega arith) (inr refl), (good _ hs (committed-free _ hh ∙ hf), last _ hs hh (header-count n b s false 0 (omega arith)) hf))
 
   pub replayed : (ms : List Put) (b : List Page) → Sound n b → holds b ≡ true → Within ms (entries b) → committed b ≡ X → from-block first-page (puts ms b) ≡ X →
       Safely put (Allowed n) P Q b (ms ++ (header-put false 0 ∷ []))
@@ -218,7 +238,7 @@ module _ (n : ℕ) (P Q : List Page → Type 0) (X : List Page)
   replayed [] b s h w c f = emptied b s c f
   replayed (m ∷ ms) b s h w c f = (
     good b s c,
-    (entry-fits n b m s (w .0), λ _ q. absurd (omega (arith, entry-high n b m s (w .0) .1))),
+    entry-allowed n b m s (w .0) h,
     replayed ms (put m b) (replayed-sound n b m s (w .0)) (replayed-holds n b m s (w .0) ∙ h) (subst (Within ms) (sym (replayed-entries n b m s (w .0))) (w .1))
         (replayed-committed n b m s (w .0) h ∙ c) f,
   )

@@ -12,7 +12,7 @@ use lib.ListN.{length}
 use Rattle.std.proofs.shelf.Tests.{cases-eq}
 use Rattle.model.specs.Numbers.{room, first-page}
 use Rattle.model.specs.Book.{Page, nth, set-page, good-page}
-use Rattle.model.specs.Plain.{put, puts}
+use Rattle.model.specs.Plain.{Put, put, puts}
 use Rattle.model.specs.Promise.{from-block}
 use Rattle.model.proofs.Lists.{length-set-page, nth-set-same, nth-set-other, from-set-below, from-set-above, good-set}
 use Rattle.model.proofs.Puts.{puts-append}
@@ -20,7 +20,7 @@ use Rattle.layout.specs.Header.{flag-in, count-in}
 use Rattle.layout.specs.PageList.{listed, list-with}
 use Rattle.layout.proofs.Blocks.{listed-same, listed-other, good-length, good-list-with}
 use Rattle.journal.specs.Journal.{holds, count, entry, entries-from, entries, header-put}
-use Rattle.journal.proofs.Log.{puts-from, entries-high, entries-same, entries-last, Sound, holds-same, count-same, header-other, header-from, header-sound, header-holds, header-count}
+use Rattle.journal.proofs.Log.{puts-from, entries-high, entries-same, entries-last, Allowed, Sound, holds-same, count-same, header-other, header-from, header-sound, header-holds, header-count, header-allowed}
 
 module _ (n : ℕ) (b : List Page) (s : Sound n b) (few : count b < room) (a : ℕ) (there : a < n) (small : a < 4294967296) (p : Page) (good : good-page p ≡ true) where
   abbrev list′ : Page
@@ -36,7 +36,7 @@ module _ (n : ℕ) (b : List Page) (s : Sound n b) (few : count b < room) (a : �
   abbrev pub b₃ : List Page
   b₃ = put (record { block = 2 + count b; content = p }) b₂
 
-  pub good-list : good-page list′ ≡ true
+  good-list : good-page list′ ≡ true
   good-list = good-list-with (nth b 1) (count b) a few (s .good 1)
 
   line : length (nth b 1) ≡ 1024
@@ -99,6 +99,24 @@ module _ (n : ℕ) (b : List Page) (s : Sound n b) (few : count b < room) (a : �
 
   pub from₃ : from-block first-page b₃ ≡ from-block first-page b
   from₃ = from-set-below first-page b₂ (2 + count b) p (omega arith) ∙ from₂
+
+  -- each of the three may be put where it is
+  pub allowed₁ : holds b ≡ false → Allowed n b (header-put false (suc (count b)))
+  allowed₁ h = header-allowed n b s false (suc (count b)) few (inl h)
+
+  log-allowed : (c : List Page) (m : Put) → 0 < m .block → m .block < first-page → good-page (m .content) ≡ true → holds c ≡ false → Allowed n c m
+  log-allowed c m low high g h = record {
+    fits = (omega arith, g);
+    to-log = λ _ _. h;
+    to-page = λ q. absurd (omega arith);
+    to-header = λ q. absurd (omega arith);
+  }
+
+  pub allowed₂ : Allowed n b₁ (record { block = 1; content = list′ })
+  allowed₂ = log-allowed b₁ _ (omega arith) (omega arith) good-list holds₁
+
+  pub allowed₃ : Allowed n b₂ (record { block = 2 + count b; content = p })
+  allowed₃ = log-allowed b₂ _ (omega arith) (omega arith) good holds₂
 
   -- the log as it was, and the new write at its end
   list₃ : nth b₃ 1 ≡ list′

@@ -1,4 +1,5 @@
 -- What a plan's steps mean, by the disk as it was when the plan was worked out. Definitions only.
+use mathlib.Core.Path.{_≡_}
 use mathlib.Core.Bool.{Bool, true, false}
 use mathlib.Core.List.{List, [], _∷_, _++_}
 use Prim.Native.Nat.{ℕ, suc, _+_, _<_}
@@ -30,6 +31,30 @@ Placed (Listing i p) = i < room
 Placed Given = Unit {0}
 Placed (Logged i) = Unit {0}
 Placed Empty = Unit {0}
+
+-- a plan that brings pages of the log to their places
+abbrev pub replays : Plan → Bool
+replays Nothing = false
+replays (Write n p) = false
+replays (Close n) = ltb 0 n
+replays (Replay n) = ltb 0 n
+replays (Make k) = false
+
+-- what is read off the log is read by a plan that replays it, and lies in the log
+abbrev pub Reads-log : Plan → Kind → Type 0
+Reads-log q (Header h n) = Unit {0}
+Reads-log q (Listing i p) = Unit {0}
+Reads-log q Given = Unit {0}
+Reads-log q (Logged i) = (replays q ≡ true) × (i < room)
+Reads-log q Empty = Unit {0}
+
+-- the block that has the bytes of a kind that is read off the log
+abbrev pub Log-block : Kind → ℕ → Type 0
+Log-block (Header h n) k = ⊥
+Log-block (Listing i p) k = ⊥
+Log-block Given k = ⊥
+Log-block (Logged i) k = k ≡ 2 + i
+Log-block Empty k = ⊥
 
 -- the bytes of a kind; given: what came with the write
 abbrev pub content : Page → List Page → Kind → Page

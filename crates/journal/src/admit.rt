@@ -1,7 +1,7 @@
 // Which calls are taken, and what each that is taken puts on the disk.
 //
 // The refusals are checked in one order, and the first that applies is told: bytes that are no call; a page
-// that hasn't 1,024 bytes, or a call that this register can't do; a page that is not there; a write when the
+// that hasn't 1,024 bytes; a page that is not there; a write when the
 // log is full. Only the last asks for the log, so all others are told without a look at the disks.
 ghost use mathlib.Core.Path.{_≡_};
 ghost use mathlib.Core.Bool.{true, false};
@@ -17,7 +17,7 @@ ghost use Rattle.wire.specs.Calls.{meant};
 ghost use Rattle.wire.specs.Answers.{refusal-number, refusal-place};
 ghost use Rattle.journal.specs.Journal.{holds, count as count-on, call-puts, recovery};
 ghost use Rattle.journal.specs.Plans.{fits, plan-puts};
-ghost use Rattle.journal.specs.Admission.{early, late, given-by, Refusals-are};
+ghost use Rattle.journal.specs.Admission.{early, late, Gives, Refusals-are};
 use crate::plan::Plan;
 use layout::log::Log;
 use layout::places::Layout;
@@ -76,7 +76,7 @@ pub fn admit<'a>(pages: u32, call: Call<'a>) -> Result<Call<'a>, Refusal>
             Ok(Call::Write { page, bytes })
         }
         Call::Close => Ok(Call::Close),
-        Call::Size => Err(Refusal::Unfit),
+        Call::Size => Ok(Call::Size),
     }
 }
 
@@ -84,7 +84,7 @@ pub fn admit<'a>(pages: u32, call: Call<'a>) -> Result<Call<'a>, Refusal>
 pub fn plan(log: Log, call: Call<'_>) -> Result<Plan, Refusal>
     ensures { λ r. ⌜ ByOk r
         (λ p. (late (log .count) (meant (call .entry)) ≡ 0) × (fits p ≡ true)
-        × ((b : List Page) → count-on b ≡ log .count → plan-puts p (given-by (meant (call .entry))) b ≡ call-puts b (meant (call .entry))))
+        × ((b : List Page) (given : Page) → count-on b ≡ log .count → Gives (meant (call .entry)) given → plan-puts p given b ≡ call-puts b (meant (call .entry))))
         (λ e. (refusal-number e ≡ late (log .count) (meant (call .entry))) × (refusal-place e ≡ 0)) ⌝ }
 {
     match call {

@@ -8,7 +8,7 @@ ghost use Rattle.model.specs.Numbers.{first-page, most-pages};
 ghost use Rattle.std.specs.Finite.{nth as item};
 ghost use Rattle.std.specs.Options.{Cases as BySome, mapped};
 ghost use Rattle.model.specs.Book.{Page, nth};
-ghost use Rattle.journal.specs.Plans.{fits, Placed, content, step-put, plan-puts};
+ghost use Rattle.journal.specs.Plans.{fits, Placed, Reads-log, Log-block, content, step-put, plan-puts};
 use layout::header::Header;
 use layout::list;
 use layout::places::Layout;
@@ -60,7 +60,7 @@ const EMPTY_HEADER: Step = Step {
 fn replay_step(list: &[u8], count: u32, i: u64) -> Option<Step>
     requires { ⌜ length (now list) ≡ 1024 ⌝ ∗ ⌜ fits (Plan.Replay count) ≡ true ⌝ }
     ensures value { λ r. ⌜ ((b : List Page) (given : Page) → nth b 1 ≡ now (list .entry) → mapped (step-put given b) r ≡ item (plan-puts (Plan.Replay count) given b) i) ⌝ }
-    ensures placed { λ r. ⌜ BySome r (Unit {0}) (λ s. Placed (s .kind)) ⌝ }
+    ensures placed { λ r. ⌜ BySome r (Unit {0}) (λ s. Placed (s .kind) × Reads-log (Plan.Replay count) (s .kind)) ⌝ }
 {
     if i < count as u64 {
         let entry = i as u32;
@@ -80,7 +80,7 @@ fn replay_step(list: &[u8], count: u32, i: u64) -> Option<Step>
 fn write_step(count: u32, page: u32, i: u64) -> Option<Step>
     requires { ⌜ fits (Plan.Write count page) ≡ true ⌝ }
     ensures value { λ r. ⌜ ((b : List Page) (given : Page) → mapped (step-put given b) r ≡ item (plan-puts (Plan.Write count page) given b) i) ⌝ }
-    ensures placed { λ r. ⌜ BySome r (Unit {0}) (λ s. Placed (s .kind)) ⌝ }
+    ensures placed { λ r. ⌜ BySome r (Unit {0}) (λ s. Placed (s .kind) × Reads-log (Plan.Write count page) (s .kind)) ⌝ }
 {
     match i {
         0 => Some(Step {
@@ -122,7 +122,7 @@ impl Plan {
     pub fn step(self, list: &[u8], i: u64) -> Option<Step>
         requires { ⌜ length (now list) ≡ 1024 ⌝ ∗ ⌜ fits self ≡ true ⌝ }
         ensures value { λ r. ⌜ ((b : List Page) (given : Page) → nth b 1 ≡ now (list .entry) → mapped (step-put given b) r ≡ item (plan-puts self given b) i) ⌝ }
-        ensures placed { λ r. ⌜ BySome r (Unit {0}) (λ s. Placed (s .kind)) ⌝ }
+        ensures placed { λ r. ⌜ BySome r (Unit {0}) (λ s. Placed (s .kind) × Reads-log self (s .kind)) ⌝ }
     {
         match self {
             Plan::Nothing => None,
@@ -156,7 +156,7 @@ pub fn fill(kind: Kind, list: &[u8], given: &[u8], out: &mut [u8]) -> Option<u64
     requires { ⌜ length (now list) ≡ 1024 ⌝ ∗ ⌜ length (now given) ≡ 1024 ⌝ ∗ ⌜ length (now out) ≡ 1024 ⌝ ∗ ⌜ Placed kind ⌝ }
     ensures { λ r. ⌜ ((b : List Page) → nth b 1 ≡ now (list .entry) → BySome r
         (now (out .exit) ≡ content (now (given .entry)) b kind)
-        (λ k. (now (out .exit) ≡ now (out .entry)) × (content (now (given .entry)) b kind ≡ nth b k))) ⌝ }
+        (λ k. (now (out .exit) ≡ now (out .entry)) × (content (now (given .entry)) b kind ≡ nth b k) × Log-block kind k)) ⌝ }
 {
     match kind {
         Kind::Header { holds, count } => Header { holds, count }.encode(out),

@@ -9,7 +9,7 @@ use Prim.Native.Nat.{ℕ, zero, suc, _+_, _*_, _/_, _%_, _≤_, _<_}
 use native.Mathlib.Omega.{arith}
 use lib.Dec.{eqb, ltb}
 use lib.ListN.{length, take, drop}
-use Rattle.std.proofs.shelf.Tests.{eq-eqb, eqb-true, lt-ltb, le-leb, and-parts, and-from, cond-true, cases-order}
+use Rattle.std.proofs.shelf.Tests.{eq-eqb, eqb-true, lt-ltb, le-leb, leb-true, and-parts, and-from, cond-true, cases-order}
 use Rattle.model.specs.Numbers.{page-size, room}
 use Rattle.model.specs.Book.{Page, empty-page, many, bytes, good-page}
 use Rattle.model.proofs.Lists.{length-many, getD-many}
@@ -124,3 +124,11 @@ module _ (header list : Page) (pages : ℕ) (flag : flag-in header ≤ 1) (few :
 
   pub log-count-is : log-count header list pages ≡ count-in header
   log-count-is = cond-true _ _ _ sane-from
+
+-- whatever the two blocks hold
+pub log-count-few : (header list : Page) (pages : ℕ) → log-count header list pages ≤ room
+log-count-few header list pages = go (sane header list pages) refl
+  where
+    go : (t : Bool) → sane header list pages ≡ t → cond t (count-in header) 0 ≤ room
+    go true e = leb-true _ _ (and-parts _ _ (and-parts _ _ e .0) .1)
+    go false e = omega arith

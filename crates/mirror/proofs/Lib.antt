@@ -3,3 +3,4 @@ pub mod Replicas
 pub mod Resync
 pub mod Landed
 pub mod Numbered
+pub mod Plans

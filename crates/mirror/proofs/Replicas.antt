@@ -13,8 +13,8 @@ use native.Mathlib.Omega.{arith}
 use lib.Dec.{eqb}
 use lib.ListN.{length}
 use Rattle.std.proofs.shelf.Tests.{eq-eqb, ne-eqb, cases-eq, cases-lt, both-ways, cond-true, cond-false}
-use Rattle.model.specs.Disks.{Disk, On, on, wrote-one, wrote, killed, alive}
-use Rattle.model.proofs.Safely.{Safely}
+use Rattle.model.specs.Disks.{Disk, On, on, wrote-one, wrote, wrote-all, killed, alive}
+use Rattle.model.proofs.Safely.{Safely, safe-here}
 use Rattle.mirror.specs.Mirror.{numbers, on-each, mirrored}
 use Rattle.mirror.proofs.Each.{Each, Has, each-map, each-wrote, length-wrote, alive-wrote, each-killed, length-killed}
 
@@ -148,3 +148,32 @@ module _ {S I : Type 0} (step : I → S → S) (G : S → I → Type 0) (P Q : S
   at-end d (agree s xs al has e safe) = (s, al, has, ended s xs d al e safe)
   at-end d (ahead s x xs j [] al asc h e p g safe) = (step x s, al, all-have-it s x j d h, ended (step x s) xs d al e safe)
   at-end d (ahead s x xs j (k ∷ is) al asc h e p g safe) = let z : _≡_ {A = ℕ} 0 1 = cc in absurd (omega arith)
+
+  -- each that lives has s, or what the item that is written next makes of s
+  abbrev pub Next : List (Disk S) → On I → Type 0
+  Next d w = (s : S) × P s × G s (w .item) × P (step (w .item) s) × Each (λ i y. y .lives ≡ true → (y .has ≡ s) ⊎ (y .has ≡ step (w .item) s)) 0 d
+
+  next-agree : (s : S) (xs : List I) (d : List (Disk S)) (w : On I) (ws : List (On I)) → alive d ≡ true → Each (Has s) 0 d → w ∷ ws ≡ mirrored (length d) xs → Safely step G P Q s xs → Next d w
+  unfolding mirrored on-each numbers
+  next-agree s [] d w ws al has e safe = let z : _≡_ {A = ℕ} 0 1 = cc in absurd (omega arith)
+  next-agree s (x ∷ xs) d w ws al has e safe =
+      let n = some-disk d al in
+      let up : numbers 0 (length d) ≡ 0 ∷ numbers 1 (n .0) = ap (numbers 0) (n .1) in
+      let f : w ∷ ws ≡ on 0 x ∷ (on-each (numbers 1 (n .0)) x ++ mirrored (length d) xs) = e ∙ ap (λ is. on-each is x ++ mirrored (length d) xs) up in
+      let hw : w ≡ on 0 x = cc in
+      rw hw (s, safe .0, safe .1, safe-here step G P Q (step x s) xs (safe .2), each-map (Has s) _ (λ i y h l. inl (h l)) 0 d has)
+
+  pub next : (d : List (Disk S)) (w : On I) (ws todo : List (On I)) → Shape step G P Q d todo → todo ≡ w ∷ ws → Next d w
+  unfolding on-each
+  next d w ws todo (agree s xs al has e safe) t = next-agree s xs d w ws al has (sym t ∙ e) safe
+  next d w ws todo (ahead s x xs j [] al asc h e p g safe) t = next-agree (step x s) xs d w ws al (all-have-it s x j d h) (sym t ∙ e) safe
+  next d w ws todo (ahead s x xs j (k ∷ is) al asc h e p g safe) t =
+      let f : w ∷ ws ≡ on k x ∷ (on-each is x ++ mirrored (length d) xs) = sym t ∙ e in
+      let hw : w ≡ on k x = cc in
+      rw hw (s, p, g, safe-here step G P Q (step x s) xs safe, each-map (Ahead j (k ∷ is) s (step x s)) _ (λ i y c l. elim (cases-lt i j) [ inl z ↦ inr (c l .0 z) | inr z ↦ inl (c l .1 z .0) ]) 0 d h)
+
+  -- all of a plan is written
+  pub written-out : (todo : List (On I)) (d : List (Disk S)) → Shape step G P Q d todo → Shape step G P Q (wrote-all step todo d) []
+  unfolding wrote-all
+  written-out [] d sh = sh
+  written-out (x ∷ xs) d sh = written-out xs (wrote step x d) (stepped d x xs (x ∷ xs) sh refl)

@@ -1,3 +1,6 @@
 pub mod Lists
 pub mod Safely
 pub mod Puts
+pub mod Holding
+pub mod Runs
+pub mod FirstAnswer

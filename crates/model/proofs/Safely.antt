@@ -15,7 +15,3 @@ safe-here step G P Q s (x ∷ xs) h = h .0
 abbrev pub steps : {S I : Type 0} → (I → S → S) → List I → S → S
 steps step [] s = s
 steps step (x ∷ xs) s = steps step xs (step x s)
-
-pub safe-end : {S I : Type 0} (step : I → S → S) (G : S → I → Type 0) (P Q : S → Type 0) (s : S) (xs : List I) → Safely step G P Q s xs → P (steps step xs s) × Q (steps step xs s)
-safe-end step G P Q s [] h = h
-safe-end step G P Q s (x ∷ xs) h = safe-end step G P Q (step x s) xs (h .2)

@@ -4,3 +4,5 @@ pub mod Disks
 pub mod Plain
 pub mod Promise
 pub mod Two
+pub mod Statements
+pub mod Later

@@ -2,11 +2,10 @@
 -- proved of a register over a list holds of it over two disks with names. A write's disk number is shown to
 -- be below the number of disks, since two disks take every number but 0 for the second.
 use mathlib.Core.Path.{_≡_, refl, sym, ap, subst, _∙_}
-use mathlib.Core.Bool.{Bool, true, false, cond, _||_}
-use mathlib.Core.List.{List, [], _∷_, _++_}
-use Prim.Native.Nat.{ℕ, zero, suc, _+_, _≤_, _<_}
+use mathlib.Core.Bool.{Bool, true, false, _||_}
+use mathlib.Core.List.{List, [], _∷_}
+use Prim.Native.Nat.{ℕ, zero, suc, _+_, _<_}
 use native.Mathlib.Omega.{arith}
-use lib.ListN.{length}
 use Rattle.model.specs.Numbers.{first-page, copies}
 use Rattle.model.specs.Book.{Page, Call, Limits}
 use Rattle.model.specs.Disks as list
@@ -15,48 +14,12 @@ use Rattle.model.specs.Plain.{Put, put, plain}
 use Rattle.model.specs.Promise as promise
 use Rattle.model.specs.Two.{Disks, Write, wrote, wrote-all, seen, World, Fit, made, Lived, Right}
 use Rattle.model.specs.Two.Lived.{begins, one-written, answered, first-dies, second-dies, power, power-again, mended}
-use Rattle.mirror.specs.Mirror.{numbers, on-each, mirrored, highest, source, all-on, resync}
-use Rattle.journal.specs.Journal.{recovery, puts-of, blank-puts}
+use Rattle.mirror.specs.Mirror.{mirrored, source}
+use Rattle.mirror.proofs.Plans.{Below, below-mirrored}
+use Rattle.journal.specs.Journal.{puts-of, blank-puts}
 use Rattle.promise.specs.Register.{recovery-writes, register, listed-disks, as-write, as-writes, for-two}
 use Rattle.promise.proofs.Right.{is-right}
-
--- items for the disks below k
-abbrev pub Below : ℕ → List (On Put) → Type 0
-Below k [] = Unit {0}
-Below k (x ∷ xs) = (x .disk < k) × Below k xs
-
-below-append : (k : ℕ) (xs ys : List (On Put)) → Below k xs → Below k ys → Below k (xs ++ ys)
-below-append k [] ys a b = b
-below-append k (x ∷ xs) ys a b = (a .0, below-append k xs ys (a .1) b)
-
-below-on-each : (k i n : ℕ) (x : Put) → i + n ≤ k → Below k (on-each (numbers i n) x)
-unfolding numbers on-each
-below-on-each k i zero x h = tt
-below-on-each k i (suc n) x h = (omega arith, below-on-each k (suc i) n x (omega arith))
-
-pub below-mirrored : (k : ℕ) (xs : List Put) → Below k (mirrored k xs)
-unfolding mirrored
-below-mirrored k [] = tt
-below-mirrored k (x ∷ xs) = below-append k (on-each (numbers 0 k) x) (mirrored k xs) (below-on-each k 0 k x (omega arith)) (below-mirrored k xs)
-
-below-all-on : (k i : ℕ) (ms : List Put) → i < k → Below k (all-on i ms)
-unfolding all-on
-below-all-on k i [] h = tt
-below-all-on k i (m ∷ ms) h = (h, below-all-on k i ms h)
-
-below-resync : (k i : ℕ) (b : List Page) (d : View) → i + length d ≤ k → Below k (resync i b d)
-unfolding resync
-below-resync k i b [] h = tt
-below-resync k i b (y ∷ d) h = below-append k (cond (y .lives) (all-on i (highest 0 b (y .has))) []) (resync (suc i) b d) (go (y .lives)) (below-resync k (suc i) b d (omega arith))
-  where
-    go : (t : Bool) → Below k (cond t (all-on i (highest 0 b (y .has))) [])
-    go true = below-all-on k i (highest 0 b (y .has)) (omega arith)
-    go false = tt
-
-pub below-recovery : (k : ℕ) (d : View) → length d ≡ k → Below k (recovery-writes d)
-below-recovery k d e =
-    below-append k (resync 0 (source d) d) (mirrored (length d) (recovery (source d))) (below-resync k 0 (source d) d (omega arith))
-    (subst (λ (n : ℕ). Below k (mirrored n (recovery (source d)))) (sym e) (below-mirrored k (recovery (source d))))
+use Rattle.promise.proofs.Within.{below-recovery}
 
 -- one item written, on either
 wrote-two : (x : On Put) (d : Disks) → x .disk < 2 → listed-disks (wrote (as-write x) d) ≡ list.wrote put x (listed-disks d)
@@ -169,10 +132,10 @@ module _ (l : Limits) where
   alike (second-dies {w} lived h) = second-like w (alike lived) h
   alike (power {w} lived up) =
       let k = alike lived in
-      (recovery-writes (listed-disks (seen (w .disks))), refl, below-recovery 2 (listed-disks (seen (w .disks))) refl, list.Lived.power (listed-disks (w .disks)) (k .3) (fallen-none (w .disks)) up)
+      (recovery-writes (listed-disks (seen (w .disks))), refl, below-recovery (listed-disks (seen (w .disks))), list.Lived.power (listed-disks (w .disks)) (k .3) (fallen-none (w .disks)) up)
   alike (power-again {w} lived up) =
       let k = alike lived in
-      (recovery-writes (listed-disks (seen (w .disks))), refl, below-recovery 2 (listed-disks (seen (w .disks))) refl, list.Lived.power-again (listed-disks (w .disks)) (k .3) (fallen-none (w .disks)) up)
+      (recovery-writes (listed-disks (seen (w .disks))), refl, below-recovery (listed-disks (seen (w .disks))), list.Lived.power-again (listed-disks (w .disks)) (k .3) (fallen-none (w .disks)) up)
   alike (mended {w} lived up todo) = let k = alike lived in ([], unfold as-writes in refl, tt, list.Lived.mended (k .3) up (nothing-todo w k todo))
 
 -- THE MAIN PROMISE, for two disks with names

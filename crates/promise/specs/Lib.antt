@@ -1,1 +1,3 @@
 pub mod Register
+pub mod LateReading
+pub mod Bounds

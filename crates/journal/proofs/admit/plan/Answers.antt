@@ -18,10 +18,10 @@ pub returns-in-Some : need.returns-in-Some
 returns-in-Some c =
     let e = c .in-Some .ensures tt in
     let h = lt-ltb (c .args .log .count) room (e .1) in
-    simp (c .in-Write .is, e .0, h) (refl, refl, λ b q. write-planned b (c .args .log .count) (c .in-Write .page) (c .in-Write .bytes .now) q)
+    simp (c .in-Write .is, e .0, h) (refl, refl, λ b given q f. write-planned b (c .args .log .count) (c .in-Write .page) given (c .in-Write .bytes .now) q f)
 
 pub returns-in-Close : need.returns-in-Close
-returns-in-Close c = simp (c .in-Close .is) (refl, le-leb (c .args .log .count) room (c .args .log .few), λ b q. close-planned b (c .args .log .count) [] q)
+returns-in-Close c = simp (c .in-Close .is) (refl, le-leb (c .args .log .count) room (c .args .log .few), λ b given q f. close-planned b (c .args .log .count) given q)
 
 -- a read and a size put nothing
 idle : (n : ℕ) (call : Call) → ((x : ℕ) × (call ≡ Read x)) ⊎ (call ≡ Size) → (late n (meant call) ≡ 0) × ((b : List Page) → [] ≡ call-puts b (meant call))
@@ -30,4 +30,4 @@ idle n call (inl (x, e)) = rw e (refl, λ b. refl)
 idle n call (inr e) = rw e (refl, λ b. refl)
 
 pub returns-in-Read : need.returns-in-Read
-returns-in-Read c = let i = idle (c .args .log .count) (c .args .call) (c .in-Read .is) in (i .0, refl, λ b q. i .1 b)
+returns-in-Read c = let i = idle (c .args .log .count) (c .args .call) (c .in-Read .is) in (i .0, refl, λ b given q f. i .1 b)
