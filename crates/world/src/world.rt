@@ -202,6 +202,31 @@ impl World {
         true
     }
 
+    // A disk dies after so many more reads and writes, if it lives: so it can die while it is read.
+    pub fn set_left(&mut self, side: Side, left: u64) {
+        match side {
+            Side::First => self.disks.first.set_left(left),
+            Side::Second => self.disks.second.set_left(left),
+        }
+    }
+
+    // Another world, as this one is now.
+    pub fn copy(&self, heap: Global) -> Result<World, AllocError> {
+        Ok(World {
+            disks: Mirror {
+                first: self.disks.first.copy(heap)?,
+                second: self.disks.second.copy(heap)?,
+            },
+            pages: self.pages,
+            up: self.up,
+            work: self.work,
+            next: self.next,
+            held: self.held,
+            under: self.under,
+            past: Vec::from_slice(heap, self.past.as_slice())?,
+        })
+    }
+
     // Puts bytes at the start of a block on both disks, at rest. No register does this, and nothing is
     // promised of a world after it: it is for a look at disks that no register wrote.
     pub fn overwrite(&mut self, block: u64, bytes: &[u8]) -> bool {
