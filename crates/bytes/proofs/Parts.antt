@@ -2,6 +2,7 @@
 -- read back. The first two lemmas turn the checker's own terms for parts of slices into the words of specs/.
 use mathlib.Core.Path.{_≡_, refl, sym, ap, subst, _∙_}
 use mathlib.Core.List.{List, [], _∷_, _++_}
+use mathlib.Core.Bool.{true}
 use mathlib.Core.Logic.{_⊎_, inl, inr}
 use Prim.Native.Nat.{ℕ, zero, suc, _+_, _*_, _/_, _%_, _-_, _≤_, _<_}
 use native.Mathlib.Omega.{arith}
@@ -11,10 +12,10 @@ use borrow.Rule.Slice.PartMut.{putMid}
 use Rattle.std.proofs.shelf.Lists.{drop-drop, same-lists, places, append-assoc, take-at, drop-at, drop-take, drop-append-le, length-take-le, length-replicate}
 use Rattle.std.proofs.shelf.Parts.{take-putMid-below, drop-putMid}
 use Rattle.std.proofs.shelf.Edits.{sets-eq}
-use Rattle.std.proofs.shelf.Tests.{cases-eq}
+use Rattle.std.proofs.shelf.Tests.{cases-eq, lt-ltb}
 use Rattle.std.proofs.shelf.Bits.{div-add-mod'}
 use borrow.Author.Needs.{needs}
-use Rattle.model.specs.Book.{many, empty-page}
+use Rattle.model.specs.Book.{many, empty-page, bytes}
 use Rattle.bytes.specs.Words.{overwritten, part, le4, num4, Reads-back, Keeps-others}
 
 pub part-is : (xs : List ℕ) (at n : ℕ) → take (at + n - at) (drop at xs) ≡ part xs at n
@@ -111,3 +112,9 @@ length-part d a n h = search (needs, places)
 
 pub length-empty : length empty-page ≡ 1024
 length-empty = ap length (many-is 1024 0) ∙ length-replicate {A = ℕ} 1024 0
+
+-- what a slice of bytes holds is bytes
+pub bytes-from : (xs : List ℕ) → ((i : ℕ) → getD xs i 0 < 256) → bytes xs ≡ true
+unfolding bytes
+bytes-from [] h = refl
+bytes-from (x ∷ xs) h = rw (lt-ltb x 256 (h 0), bytes-from xs (λ i. h (suc i)))

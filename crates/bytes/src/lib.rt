@@ -6,8 +6,7 @@ ghost use mathlib.Core.Path.{_≡_};
 ghost use Prim.Native.Nat.{_+_, _≤_};
 ghost use lib.ListN.{length};
 ghost use Rattle.std.specs.Orderings.{Decides};
-ghost use mathlib.Core.Bool.{true};
-ghost use Rattle.model.specs.Book.{empty-page, bytes as all-bytes};
+ghost use Rattle.model.specs.Book.{empty-page};
 ghost use Rattle.bytes.specs.Words.{le4, num4, overwritten, part, Reads-back, Keeps-others};
 
 // Bytes in a block, and in a page.
@@ -85,18 +84,6 @@ pub fn same(a: &[u8], b: &[u8]) -> bool
         same = same & (a[i] == b[i]);
     }
     same
-}
-
-// Whether what is lent is bytes: always, by its type. This says so where a contract speaks of lists of
-// numbers, and looks at one byte to do it.
-pub fn are_bytes(s: &[u8]) -> bool
-    ensures bytes { λ _. ⌜ all-bytes (now (s .entry)) ≡ true ⌝ }
-    ensures always { λ r. ⌜ r ≡ true ⌝ }
-{
-    if s.len() == 0 {
-        return true;
-    }
-    s[0] as u32 <= 255
 }
 
 // A number of four bytes is read back as it was written, and no other is disturbed.

@@ -75,7 +75,7 @@ shown-block out h k l s =
 dead-wrote : (x : Put) (d : Known) → d .lives ≡ false → wrote-one put x d ≡ d
 dead-wrote x d e = let q : cond (d .lives) (put x (d .has)) (d .has) ≡ d .has = rw e in λ i. record { has = q i; lives = d .lives }
 
-either-way : (t : Bool) (x : Put) (d : Known) → d .lives ≡ false → cond t (wrote-one put x d) d ≡ d
+pub either-way : (t : Bool) (x : Put) (d : Known) → d .lives ≡ false → cond t (wrote-one put x d) d ≡ d
 either-way true x d e = dead-wrote x d e
 either-way false x d e = refl
 

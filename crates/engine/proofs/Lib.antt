@@ -2,3 +2,8 @@ pub mod Writes
 pub mod Doing
 pub mod LogKept
 pub mod Stepping
+pub mod Calling
+pub mod Living
+pub mod Scanning
+pub mod Recovering
+pub mod Made

@@ -7,5 +7,6 @@ pub mod call;
 pub mod make;
 pub mod perform;
 pub mod recover;
+pub mod stopped;
 pub mod work;
 pub mod write;

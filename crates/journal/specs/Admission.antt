@@ -7,14 +7,14 @@ use lib.Dec.{ltb, eqb}
 use lib.ListN.{length}
 use Rattle.model.specs.Numbers.{page-size, room}
 use Rattle.model.specs.Book.{Page, bytes, Call, read, write, close, size, garbled, Limits, Book, turned}
-use Rattle.model.specs.Promise.{thin}
+use Rattle.model.specs.Promise.{all}
 
 -- the refusal that a call meets before the log is looked at, 0 for none, where there are so many pages
 abbrev pub early : ℕ → Call → ℕ
 early pages (read a) = cond (ltb a pages) 0 3
 early pages (write a p) = cond (eqb (length p) page-size) (cond (ltb a pages) 0 3) 2
 early pages close = 0
-early pages size = 2
+early pages size = 0
 early pages (garbled k) = 1
 
 -- the refusal of an admitted call when so many writes wait
@@ -44,5 +44,5 @@ In-bytes (garbled k) = Unit {0}
 -- together they are the book's refusals, in the book's order
 abbrev pub Refusals-are : Type 0
 Refusals-are =
-    (l : Limits) (b : Book) (c : Call) → ((k : ℕ) → l .calls-can k ≡ thin k) → In-bytes c →
+    (l : Limits) (b : Book) (c : Call) → ((k : ℕ) → l .calls-can k ≡ all k) → In-bytes c →
     turned l b c ≡ cond (eqb (early (l .pages) c) 0) (late (b .waiting) c) (early (l .pages) c)

@@ -1,7 +1,7 @@
 // Which calls are taken, and what each that is taken puts on the disk.
 //
 // The refusals are checked in one order, and the first that applies is told: bytes that are no call; a page
-// that hasn't 1,024 bytes, or a call that this register can't do; a page that is not there; a write when the
+// that hasn't 1,024 bytes; a page that is not there; a write when the
 // log is full. Only the last asks for the log, so all others are told without a look at the disks.
 ghost use mathlib.Core.Path.{_≡_};
 ghost use mathlib.Core.Bool.{true, false};
@@ -76,7 +76,7 @@ pub fn admit<'a>(pages: u32, call: Call<'a>) -> Result<Call<'a>, Refusal>
             Ok(Call::Write { page, bytes })
         }
         Call::Close => Ok(Call::Close),
-        Call::Size => Err(Refusal::Unfit),
+        Call::Size => Ok(Call::Size),
     }
 }
 
