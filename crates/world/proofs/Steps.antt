@@ -84,6 +84,21 @@ second-dead d a h l =
     let e : record { has = d .second .has; lives = false } ≡ a = λ i. record { has = sym h i; lives = sym l i } in
     subst P e (ran.dies 1 stays)
 
+-- disks that are the same
+pub same-first : (d : Both) (a : Known) (n : ℕ) (up : Bool) (w : Work) (k : ℕ) (held : Page) (un : List Under) (hs : List Happening) → a .has ≡ d .first .has → a .lives ≡ d .first .lives →
+    Reached d n up w k held un hs → Reached (record { first = a; second = d .second }) n up w k held un hs
+same-first d a n up w k held un hs h l q =
+    let P : Known → Type 0 = λ x. Reached (record { first = x; second = d .second }) n up w k held un hs in
+    let e : d .first ≡ a = λ i. record { has = sym h i; lives = sym l i } in
+    subst P e q
+
+pub same-second : (d : Both) (a : Known) (n : ℕ) (up : Bool) (w : Work) (k : ℕ) (held : Page) (un : List Under) (hs : List Happening) → a .has ≡ d .second .has → a .lives ≡ d .second .lives →
+    Reached d n up w k held un hs → Reached (record { first = d .first; second = a }) n up w k held un hs
+same-second d a n up w k held un hs h l q =
+    let P : Known → Type 0 = λ x. Reached (record { first = d .first; second = x }) n up w k held un hs in
+    let e : d .second ≡ a = λ i. record { has = sym h i; lives = sym l i } in
+    subst P e q
+
 -- the answer is told
 pub told : (d : Both) (n : ℕ) (w : Work) (k : ℕ) (held : Page) (c : Call) (a : Answer) (hs : List Happening) → one-lives d ≡ true → ((b : List Page) → drop k (work-writes w b) ≡ []) →
     Reached d n true w k held (record { call = c; answer = a; memory = [] } ∷ []) hs → Reached d n true w k held [] (was-told c a ∷ hs)
@@ -120,6 +135,20 @@ all-keep w b same h = go (w .copy) same
     go None z = rest
     go (Some k) z = (inr z, rest)
 
+-- what performing the next write of a world that can be reached gives
+performing : (d e : Both) (n : ℕ) (up : Bool) (w : Work) (k : ℕ) (x : Write) (held held' : Page) (un : List Under) (hs : List Happening) (r : Bool) (b : List Page) →
+    Some (write-means (w .block) b x) ≡ item (work-writes w b) k → Performed (Some d) (Some e) w x held held' r → Goes-by d w k held b →
+    Ran (write-means (w .block) b x ∷ []) (view d) (view e) × (r ≡ one-lives e) × (r ≡ true → held' ≡ written (w .block) b (x .kind))
+    × (drop k (work-writes w b) ≡ write-means (w .block) b x ∷ drop (k + 1) (work-writes w b))
+performing d e n up w k x held held' un hs r b at done by =
+    let p : On Put = write-means (w .block) b x in
+    let split : drop k (work-writes w b) ≡ p ∷ drop (k + 1) (work-writes w b) = drop-item (work-writes w b) k p at ∙ ap (λ j. p ∷ drop j (work-writes w b)) (sym (add-one k)) in
+    let H : List (On Put) → Type 0 = λ ws. Held-for ws held in
+    let f = done d refl b (by .0) (can-do w b d (x .disk) (x .kind) (x .block) held (by .1) (subst H split (by .3))) in
+    let same = some-same e (f .0) (f .1) in
+    let E : Both → Type 0 = λ y. Ran (p ∷ []) (view d) (view y) in
+    (subst E (sym same) (f .2), f .3 ∙ ap one-lives (sym same), f .4, split)
+
 pub wrote-next : (d e : Both) (n : ℕ) (up : Bool) (w : Work) (k : ℕ) (x : Write) (held held' : Page) (un : List Under) (hs : List Happening) → one-lives d ≡ true →
     ((b : List Page) → nth b 1 ≡ w .list → Some (write-means (w .block) b x) ≡ item (work-writes w b) k) → Performed (Some d) (Some e) w x held held' true →
     Reached d n up w k held un hs → Reached e n up w (k + 1) held' un hs
@@ -128,23 +157,32 @@ wrote-next d e n up w k x held held' un hs al is done q = (q .0, q .1, λ there.
     let b : List Page = z .0 in
     let p : On Put = write-means (w .block) b x in
     let at : Some p ≡ item (work-writes w b) k = is b (z .1 .0) in
-    let split : drop k (work-writes w b) ≡ p ∷ drop (k + 1) (work-writes w b) = drop-item (work-writes w b) k p at ∙ ap (λ j. p ∷ drop j (work-writes w b)) (sym (add-one k)) in
-    let H : List (On Put) → Type 0 = λ ws. Held-for ws held in
-    let f = done d refl b (z .1 .0) (can-do w b d (x .disk) (x .kind) (x .block) held (z .1 .1) (subst H split (z .1 .3))) in
-    let E : Both → Type 0 = λ y. Ran (p ∷ []) (view d) (view y) in
-    let r : Ran (p ∷ []) (view d) (view e) = subst E (sym (some-same e (f .0) (f .1))) (f .2) in
+    let f = performing d e n up w k x held held' un hs true b at done (z .1) in
     let L : List (On Put) → Type 0 = λ ws. Lived plain register (limits n) (record { disks = view d; memory = []; up = up; todo = ws; under = un; past = hs }) in
     let K : Page → Type 0 = λ y. Held-for (drop (k + 1) (work-writes w b)) y in
     let N : ℕ → Type 0 = λ j. Held-for (drop j (work-writes w b)) (p .item .content) in (
       b,
       (
         z .1 .0,
-        (λ h. ran-keeps b (keep-item b (work-writes w b) k p at (all-keep w b (z .1 .2) h), tt) r (z .1 .1 h)),
+        (λ h. ran-keeps b (keep-item b (work-writes w b) k p at (all-keep w b (z .1 .2) h), tt) (f .0) (z .1 .1 h)),
         z .1 .2,
-        subst K (sym (f .4 refl)) (subst N (sym (add-one k)) (pair-held (w .copy) (w .block) (plan-puts (w .plan) (w .block) b) k p at)),
+        subst K (sym (f .2 refl)) (subst N (sym (add-one k)) (pair-held (w .copy) (w .block) (plan-puts (w .plan) (w .block) b) k p at)),
       ),
-      run-lives (limits n) [] up un hs (drop (k + 1) (work-writes w b)) r (view-alive e there) (subst L split (z .2)),
+      run-lives (limits n) [] up un hs (drop (k + 1) (work-writes w b)) (f .0) (view-alive e there) (subst L (f .3) (z .2)),
     ))
+
+-- where no disk is left, nothing is promised but what was explained before
+pub left-dead : (d e : Both) (n : ℕ) (up up' : Bool) (w w' : Work) (k k' : ℕ) (held held' : Page) (un un' : List Under) (hs : List Happening) → one-lives e ≡ false →
+    Reached d n up w k held un hs → Reached e n up' w' k' held' un' hs
+left-dead d e n up up' w w' k k' held held' un un' hs dead q = (q .0, q .1, λ al. absurd (both-ways (one-lives e) dead al))
+
+pub wrote-none : (d e : Both) (n : ℕ) (up : Bool) (w : Work) (k : ℕ) (x : Write) (held held' : Page) (un : List Under) (hs : List Happening) → one-lives d ≡ true →
+    ((b : List Page) → nth b 1 ≡ w .list → Some (write-means (w .block) b x) ≡ item (work-writes w b) k) → Performed (Some d) (Some e) w x held held' false →
+    Reached d n up w k held un hs → Reached e n up w k held' un hs
+wrote-none d e n up w k x held held' un hs al is done q =
+    let z = q .2 al in
+    let f = performing d e n up w k x held held' un hs false (z .0) (is (z .0) (z .1 .0)) done (z .1) in
+    left-dead d e n up up w w k k held held' un un hs (sym (f .1)) q
 
 -- a call begins
 nothing-else : (w : Work) (b c : List Page) → w .plan ≡ Nothing → work-writes w b ≡ work-writes w c
@@ -195,6 +233,17 @@ began d e n w k held t c page hs al none start q = (q .0, q .1, λ there.
     let there-on = run-lives l [] true (u (reply-means (t .reply) page) ∷ []) hs (mirrored copies (puts-of l b c)) r (view-alive e there) (subst A (sym (f .3 .0)) on) in
     (by .0, by .1, subst W (sym (by .2 ∙ f .3 .1)) there-on))
 
+-- no disk was left while it was read
+pub began-none : (d e : Both) (n : ℕ) (up : Bool) (w : Work) (k : ℕ) (held : Page) (c : Call) (page : Page) (hs : List Happening) → up ≡ true → one-lives d ≡ true → ((b : List Page) → drop k (work-writes w b) ≡ []) →
+    Begun (Some d) (Some e) n c page None → Reached d n up w k held [] hs → Reached e n up w k held [] hs
+began-none d e n up w k held c page hs is al none start q =
+    let z = q .2 al in
+    let T : List (On Put) → Type 0 = λ ws. Lived plain register (limits n) (record { disks = view d; memory = []; up = up; todo = ws; under = []; past = hs }) in
+    let U : Bool → Type 0 = λ y. Lived plain register (limits n) (record { disks = view d; memory = []; up = y; todo = []; under = []; past = hs }) in
+    let here = rested n (q .0) d hs (subst U is (subst T (none (z .0)) (z .2))) in
+    let f = start d refl (here .0) (here .1) (here .2) in
+    left-dead d e n up up w w k k held held [] [] hs (ap one-lives (some-same e (f .0) (f .1)) ∙ f .3) q
+
 -- power goes
 promised : (n : ℕ) → Good-size (limits n) → (w : World (List Page) Put) → Lived plain register (limits n) w → Explained n (w .past)
 unfolding Right
@@ -241,6 +290,23 @@ power-gone-again d e n w k held held' t un hs al start h q =
     let gone : W (recovery-writes (seen (λ b. b) (view e))) = power-again (view e) (died-lives l v d e (z .2) refl (f .0) (view-alive e (f .1))) (fallen-none e) refl in
     let down : W (work-writes t (source-of e)) = subst W (sym (f .3)) gone in
     (q .0, q .1, λ there. (source-of e, f .2, down))
+
+-- no disk was left while recovery read
+pub power-none : (d e : Both) (n : ℕ) (up : Bool) (w : Work) (k : ℕ) (held : Page) (un : List Under) (hs : List Happening) → one-lives d ≡ true →
+    Recovery-begun (Some d) (Some e) n None → Reached d n up w k held un hs → Reached e n up w k held un hs
+power-none d e n up w k held un hs al start q =
+    let z = q .2 al in
+    let f = start d refl (of-pages n (q .0) _ d (z .2) refl) in
+    left-dead d e n up up w w k k held held un un hs (ap one-lives (some-same e (f .0) (f .1)) ∙ f .3) q
+
+-- recovery begun and not gone on with: deaths at most
+pub power-kept : (d e : Both) (n : ℕ) (up : Bool) (w : Work) (k : ℕ) (held : Page) (t : Work) (un : List Under) (hs : List Happening) → one-lives d ≡ true →
+    Recovery-begun (Some d) (Some e) n (Some t) → Reached d n up w k held un hs → Reached e n up w k held un hs
+power-kept d e n up w k held t un hs al start q =
+    let z = q .2 al in
+    let f = start d refl (of-pages n (q .0) _ d (z .2) refl) in
+    let E : Both → Type 0 = λ y. Ran [] (view d) (view y) in
+    died d e n up w k held un hs (subst E (sym (some-same e (f .0) (f .1))) (f .2)) q
 
 -- new disks
 pub new-world : (d e : Both) (n : ℕ) (w : Work) (k : ℕ) (held : Page) (r : Bool) → Good-size (limits n) → Of-pages n d → w .copy ≡ None → replays (w .plan) ≡ false → ((b : List Page) → drop k (work-writes w b) ≡ []) →

@@ -2,6 +2,21 @@
 //
 // A step that isn't possible now answers false and changes nothing. So what may fail for want of memory, the
 // note of what happened, is done first.
+ghost use mathlib.Core.Path.{_≡_};
+ghost use mathlib.Core.Bool.{Bool, true, false};
+ghost use mathlib.Core.List.{List, [], _∷_};
+ghost use Prim.Native.Nat.{_+_, _≤_};
+ghost use lib.Dec.{leb};
+ghost use lib.ListN.{length};
+ghost use Rattle.std.specs.Of.Vec.{vec-items};
+ghost use Rattle.std.specs.Vec.{made};
+ghost use Rattle.model.specs.Numbers.{first-page};
+ghost use Rattle.model.specs.Book.{Page};
+ghost use Rattle.model.specs.Disks.{Happening, cut};
+ghost use Rattle.device.specs.Ran.{one-lives};
+ghost use Rattle.engine.specs.Works.{work-writes};
+ghost use Rattle.world.specs.Means.{disk-of, both-of, event-of, past-of, under-of};
+ghost use Rattle.world.specs.Reached.{Reached};
 use crate::history::Asked;
 use crate::history::Event;
 use crate::history::Told;
@@ -14,8 +29,8 @@ use device::mirror::MirrorPair;
 use device::mirror::Pair;
 use device::mirror::Side;
 use engine::call;
+use engine::make::make;
 use engine::make::making;
-use engine::perform::finish;
 use engine::perform::perform;
 use engine::recover::begin_recovery;
 use engine::work::Work;
@@ -38,6 +53,9 @@ pub struct World {
     under: Option<Under>,
     // The first first.
     past: Vec<Event>,
+    // Bytes were put on the disks by hand: nothing is promised since.
+    touched: bool,
+    ghost reached: { touched ≡ false → ∥ Reached (both-of disks) pages up work next held (under-of under) (past-of (vec-items past) []) ∥₁ },
 }
 
 // Why a world isn't made.
@@ -54,14 +72,19 @@ pub impl From<AllocError> for Unmade as UnmadeByMemory {
     }
 }
 
-// A disk that holds whatever was in memory; a register writes every block of it when it is made.
-fn raw_disk(heap: Global, pages: u32) -> Result<MemDisk, AllocError> {
+// A disk of the right size, before a register is made on it.
+fn raw_disk(heap: Global, pages: u32) -> Result<MemDisk, AllocError>
+    requires { ⌜ pages ≤ 16 ⌝ }
+    ensures { λ r. ⌜ made r (λ d. length (disk-of d .has) ≡ pages + first-page) ⌝ }
+{
     let bytes = vec![in heap; 0; 1024 * Layout::blocks(pages) as usize]?;
     Ok(MemDisk::new(bytes, u64::MAX))
 }
 
 // What is noted in the past when power goes.
-fn cut_event(under: Option<Under>) -> Event {
+fn cut_event(under: Option<Under>) -> Event
+    ensures { λ r. ⌜ ((hs : List Happening) → event-of r ∷ hs ≡ cut (under-of under) hs) ⌝ }
+{
     match under {
         Some(under) => Event::Cut(under.call),
         None => Event::Power,
@@ -74,7 +97,7 @@ impl World {
 
     // Two new disks for so many pages.
     pub fn new(heap: Global, pages: u32) -> Result<World, Unmade> {
-        if pages > Self::MOST_PAGES {
+        if pages == 0 || pages > Self::MOST_PAGES {
             return Err(Unmade::Pages);
         }
         let Some(work) = making(pages) else {
@@ -84,7 +107,7 @@ impl World {
             first: raw_disk(heap, pages)?,
             second: raw_disk(heap, pages)?,
         };
-        finish(&mut disks, &work);
+        make(&mut disks, pages);
         Ok(World {
             disks,
             pages,
@@ -94,17 +117,27 @@ impl World {
             held: [0; 1024],
             under: None,
             past: Vec::new(heap),
+            touched: false,
         })
     }
 
     // Whether all is written that is to be.
-    pub fn is_idle(&self) -> bool {
+    pub fn is_idle(&self) -> bool
+        ensures { λ r. ⌜ ((b : List Page) → r ≡ leb (length (work-writes (now (self .entry) .work) b)) (now (self .entry) .next)) ⌝ }
+    {
         self.next >= self.work.len()
+    }
+
+    // Whether a disk lives.
+    fn has_disk(&self) -> bool
+        ensures { λ r. ⌜ r ≡ one-lives (both-of (now (self .entry) .disks)) ⌝ }
+    {
+        self.disks.is_alive()
     }
 
     // A call begins, if none is under way.
     pub fn begin(&mut self, asked: &Asked) -> bool {
-        if !self.up || !self.is_idle() || self.under.is_some() {
+        if !self.up || !self.is_idle() || self.under.is_some() || !self.has_disk() {
             return false;
         }
         let mut page = [0; 1024];
@@ -127,7 +160,7 @@ impl World {
 
     // The next block is written. False: there is none.
     pub fn write_next(&mut self) -> bool {
-        if self.next >= self.work.len() {
+        if self.next >= self.work.len() || !self.has_disk() {
             return false;
         }
         let Some(write) = self.work.write(self.next) else {
@@ -142,7 +175,7 @@ impl World {
 
     // The call under way is answered, if all is written.
     pub fn tell(&mut self) -> bool {
-        if !self.up || !self.is_idle() {
+        if !self.up || !self.is_idle() || !self.has_disk() {
             return false;
         }
         let Some(under) = self.under else {
@@ -177,6 +210,9 @@ impl World {
 
     // Power goes: a call under way is cut, and recovery begins, anew if it was under way.
     pub fn cut(&mut self) -> bool {
+        if !self.has_disk() {
+            return false;
+        }
         let Some(work) = begin_recovery(&mut self.disks, self.pages) else {
             return false;
         };
@@ -190,6 +226,9 @@ impl World {
         self.under = None;
         self.work = work;
         self.next = 0;
+        // Where a block is copied, it goes on the second disk at once.
+        let held = work.block;
+        self.held = held;
         true
     }
 
@@ -199,6 +238,7 @@ impl World {
             return false;
         }
         self.up = true;
+        self.under = None;
         true
     }
 
@@ -224,6 +264,7 @@ impl World {
             held: self.held,
             under: self.under,
             past: Vec::from_slice(heap, self.past.as_slice())?,
+            touched: self.touched,
         })
     }
 
@@ -238,6 +279,7 @@ impl World {
             return false;
         }
         whole[0..bytes.len()].copy_from_slice(bytes);
+        self.touched = true;
         let first = self.disks.write(Side::First, block, &whole);
         let second = self.disks.write(Side::Second, block, &whole);
         first | second
