@@ -7,6 +7,7 @@ use Prim.Native.Nat.{ℕ, _+_, _*_, _/_}
 use native.Mathlib.Omega.{arith}
 use lib.Dec.{leb}
 use lib.ListN.{length, drop, drop-of-length-le}
+use lib.Seq.{drop-length}
 use Rattle.std.specs.Options.{isSome}
 use Rattle.std.specs.declared.option.Option.{Option}
 use Rattle.std.specs.declared.option.Option.the-variants.{None, Some}
@@ -19,18 +20,23 @@ use Rattle.engine.specs.declared.work.Work.{Work}
 use Rattle.engine.specs.declared.call.Turn.{Turn}
 use Rattle.engine.specs.Works.{work-writes}
 use Rattle.engine.specs.Calling.{reply-means, Begun}
-use Rattle.engine.specs.Recovering.{Recovery-begun}
+use Rattle.engine.specs.Recovering.{Of-pages, Recovery-begun}
+use Rattle.engine.specs.Making.{Makes}
+use Rattle.engine.specs.Living.{Making-lives}
 use Rattle.world.specs.declared.history.Under.{Under}
 use Rattle.world.specs.declared.history.Event.{Event}
 use Rattle.world.specs.declared.history.Event.the-variants.{Answered}
 use Rattle.world.specs.Means.{asked-call, told-answer, event-of, past-of, under-of}
 use Rattle.world.specs.Reached.{Reached}
 use Rattle.world.proofs.Lists.{some-same}
-use Rattle.world.proofs.Steps.{died, told, up-again, began, began-none, power-gone, power-gone-again}
+use Rattle.world.proofs.Steps.{died, told, up-again, began, began-none, power-gone, power-gone-again, new-world}
 
 -- all is written
 pub nothing-left : (w : Work) (k : ℕ) → ((b : List Page) → true ≡ leb (length (work-writes w b)) k) → (b : List Page) → drop k (work-writes w b) ≡ []
 nothing-left w k h b = drop-of-length-le (work-writes w b) (leb-true (length (work-writes w b)) k (sym (h b)))
+
+pub all-done : (w : Work) (k : ℕ) → ((b : List Page) → k ≡ length (work-writes w b)) → (b : List Page) → drop k (work-writes w b) ≡ []
+all-done w k h b = ap (λ j. drop j (work-writes w b)) (h b) ∙ drop-length (work-writes w b)
 
 -- one more thing happened
 past-more : (es : List Event) (e : Event) (hs : List Happening) → past-of (es ++ (e ∷ [])) hs ≡ event-of e ∷ past-of es hs
@@ -41,9 +47,9 @@ past-more (x ∷ es) e hs = past-more es e (event-of x ∷ hs)
 pub past-grown : (es fs : List Event) (e : Event) → fs ≡ es ++ (e ∷ []) → past-of fs [] ≡ event-of e ∷ past-of es []
 past-grown es fs e f = ap (λ x. past-of x []) f ∙ past-more es e []
 
-pub past-none : past-of [] [] ≡ []
+pub past-none : (es : List Event) → es ≡ [] → past-of es [] ≡ []
 unfolding past-of
-past-none = refl
+past-none es e = ap (λ x. past-of x []) e
 
 pub nobody : (u : Option Under) → isSome u ≡ false → under-of u ≡ []
 nobody None e = refl
@@ -93,10 +99,11 @@ module _ (d : Both) (n : ℕ) (w : Work) (k : ℕ) (held : Page) where
         subst P (sym (past-grown es fs x f ∙ g (past-of es []))) (power-gone d e n w k held held' t (under-of un) (past-of es []) al begun h (subst U is q))
 
     pub stops-again : (up : Bool) (un : List disks.Under) (t : Work) (held' : Page) (hs : List Happening) → up ≡ false → one-lives d ≡ true → Recovery-begun (Some d) (Some e) n (Some t) →
-        held' ≡ t .block → Reached d n up w k held un hs → Reached e n false t 0 held' [] hs
+        held' ≡ t .block → Reached d n up w k held un hs → Reached e n up t 0 held' [] hs
     stops-again up un t held' hs is al begun h q =
         let U : Bool → Type 0 = λ y. Reached d n y w k held un hs in
-        power-gone-again d e n w k held held' t un hs al begun h (subst U is q)
+        let W : Bool → Type 0 = λ y. Reached e n y t 0 held' [] hs in
+        subst W (sym is) (power-gone-again d e n w k held held' t un hs al begun h (subst U is q))
 
 -- blocks were read off one of the disks
 pub read-on : (d e : Both) (n : ℕ) (up : Bool) (w : Work) (k : ℕ) (held : Page) (un : List disks.Under) (hs : List Happening) (from : ℕ) (out : List ℕ) (r : Bool) →
@@ -110,6 +117,22 @@ read-on d e n up w k held un hs from out r fetch q =
 pub past-kept : (d : Both) (n : ℕ) (up : Bool) (w : Work) (k : ℕ) (held : Page) (un : List disks.Under) (es fs : List Event) → fs ≡ es →
     Reached d n up w k held un (past-of es []) → Reached d n up w k held un (past-of fs [])
 past-kept d n up w k held un es fs e q = let P : List Event → Type 0 = λ x. Reached d n up w k held un (past-of x []) in subst P (sym e) q
+
+-- new disks
+pub makes : (d e : Both) (n : ℕ) (w : Work) (k : ℕ) (held : Page) (r : Bool) (es : List Event) → Makes n (Some w) → Of-pages n d → ((b : List Page) → k ≡ length (work-writes w b)) →
+    Making-lives (Some d) (Some e) n r → es ≡ [] → Reached e n true w k held [] (past-of es [])
+makes d e n w k held r es m long done made none =
+    let P : List Happening → Type 0 = λ hs. Reached e n true w k held [] hs in
+    subst P (sym (past-none es none)) (new-world d e n w k held r (m .0, m .1) long (m .4) (m .3) (all-done w k done) made)
+
+-- another world like it
+pub copied : (d e : Both) (n : ℕ) (up : Bool) (w : Work) (k : ℕ) (held : Page) (un : List disks.Under) (es fs : List Event) →
+    e .first .has ≡ d .first .has → e .first .lives ≡ d .first .lives → e .second .has ≡ d .second .has → e .second .lives ≡ d .second .lives → fs ≡ es →
+    Reached d n up w k held un (past-of es []) → Reached e n up w k held un (past-of fs [])
+copied d e n up w k held un es fs a b x y z q =
+    let P : Both → Type 0 = λ v. Reached v n up w k held un (past-of fs []) in
+    let same : d ≡ e = λ i. record { first = record { has = sym a i; lives = sym b i }; second = record { has = sym x i; lives = sym y i } } in
+    subst P same (past-kept d n up w k held un es fs z q)
 
 -- how many blocks a disk has that is so many bytes long
 pub raw-blocks : (n : ℕ) → 1024 * n / 1024 ≡ n

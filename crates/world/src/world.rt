@@ -208,28 +208,50 @@ impl World {
         true
     }
 
-    // Power goes: a call under way is cut, and recovery begins, anew if it was under way.
-    pub fn cut(&mut self) -> bool {
-        if !self.has_disk() {
+    // Power goes: a call under way is cut, and recovery begins.
+    pub fn power(&mut self) -> bool {
+        if !self.up || !self.has_disk() {
             return false;
         }
         let Some(work) = begin_recovery(&mut self.disks, self.pages) else {
             return false;
         };
-        if self.up {
-            let noted = self.past.push(cut_event(self.under));
-            if noted.is_err() {
-                return false;
-            }
+        let noted = self.past.push(cut_event(self.under));
+        if noted.is_err() {
+            return false;
         }
         self.up = false;
         self.under = None;
         self.work = work;
         self.next = 0;
-        // Where a block is copied, it goes on the second disk at once.
+        // Where a block is copied, that is what goes on the second disk first.
         let held = work.block;
         self.held = held;
         true
+    }
+
+    // Power goes again while recovery is under way, and recovery begins anew.
+    pub fn power_again(&mut self) -> bool {
+        if self.up || !self.has_disk() {
+            return false;
+        }
+        let Some(work) = begin_recovery(&mut self.disks, self.pages) else {
+            return false;
+        };
+        self.under = None;
+        self.work = work;
+        self.next = 0;
+        let held = work.block;
+        self.held = held;
+        true
+    }
+
+    // Power goes, whatever is under way.
+    pub fn cut(&mut self) -> bool {
+        if self.up {
+            return self.power();
+        }
+        self.power_again()
     }
 
     // Recovery is done, if all of it is written.
