@@ -1,7 +1,7 @@
 -- The same steps, in the terms in which the code has them: what happened as a vector that grows at its end,
 -- the call under way as an option, and tests in place of equations.
 use mathlib.Core.Path.{_≡_, refl, sym, ap, subst, _∙_}
-use mathlib.Core.Bool.{Bool, true, false}
+use mathlib.Core.Bool.{Bool, true, false, not}
 use mathlib.Core.List.{List, [], _∷_, _++_}
 use Prim.Native.Nat.{ℕ, _+_, _*_, _/_}
 use native.Mathlib.Omega.{arith}
@@ -29,7 +29,11 @@ use Rattle.world.specs.declared.history.Event.the-variants.{Answered}
 use Rattle.world.specs.Means.{asked-call, told-answer, event-of, past-of, under-of}
 use Rattle.world.specs.Reached.{Reached}
 use Rattle.world.proofs.Lists.{some-same}
-use Rattle.world.proofs.Steps.{died, told, up-again, began, began-none, power-gone, power-gone-again, new-world}
+use Rattle.world.proofs.Steps.{died, told, up-again, began, began-none, power-gone, power-gone-again, power-kept, new-world}
+
+pub untouched : (t : Bool) → not t ≡ true → t ≡ false
+untouched true h = sym h
+untouched false h = refl
 
 -- all is written
 pub nothing-left : (w : Work) (k : ℕ) → ((b : List Page) → true ≡ leb (length (work-writes w b)) k) → (b : List Page) → drop k (work-writes w b) ≡ []
@@ -54,6 +58,11 @@ past-none es e = ap (λ x. past-of x []) e
 pub nobody : (u : Option Under) → isSome u ≡ false → under-of u ≡ []
 nobody None e = refl
 nobody (Some x) e = absurd (both-ways true e refl)
+
+-- nothing happened
+pub past-kept : (d : Both) (n : ℕ) (up : Bool) (w : Work) (k : ℕ) (held : Page) (un : List disks.Under) (es fs : List Event) → fs ≡ es →
+    Reached d n up w k held un (past-of es []) → Reached d n up w k held un (past-of fs [])
+past-kept d n up w k held un es fs e q = let P : List Event → Type 0 = λ x. Reached d n up w k held un (past-of x []) in subst P (sym e) q
 
 module _ (d : Both) (n : ℕ) (w : Work) (k : ℕ) (held : Page) where
   pub tells : (up : Bool) (un : Option Under) (u : Under) (es fs : List Event) → up ≡ true → one-lives d ≡ true → ((b : List Page) → drop k (work-writes w b) ≡ []) → un ≡ Some u →
@@ -98,6 +107,11 @@ module _ (d : Both) (n : ℕ) (w : Work) (k : ℕ) (held : Page) where
         let P : List Happening → Type 0 = λ hs. Reached e n false t 0 held' [] hs in
         subst P (sym (past-grown es fs x f ∙ g (past-of es []))) (power-gone d e n w k held held' t (under-of un) (past-of es []) al begun h (subst U is q))
 
+    -- what happened could not be noted
+    pub stops-not : (up : Bool) (un : List disks.Under) (t : Work) (es fs : List Event) → one-lives d ≡ true → Recovery-begun (Some d) (Some e) n (Some t) → fs ≡ es →
+        Reached d n up w k held un (past-of es []) → Reached e n up w k held un (past-of fs [])
+    stops-not up un t es fs al begun same q = past-kept e n up w k held un es fs same (power-kept d e n up w k held t un (past-of es []) al begun q)
+
     pub stops-again : (up : Bool) (un : List disks.Under) (t : Work) (held' : Page) (hs : List Happening) → up ≡ false → one-lives d ≡ true → Recovery-begun (Some d) (Some e) n (Some t) →
         held' ≡ t .block → Reached d n up w k held un hs → Reached e n up t 0 held' [] hs
     stops-again up un t held' hs is al begun h q =
@@ -112,11 +126,6 @@ read-on d e n up w k held un hs from out r fetch q =
     let f = fetch d refl in
     let E : Both → Type 0 = λ y. Ran [] (view d) (view y) in
     died d e n up w k held un hs (subst E (sym (some-same e (f .0) (f .1))) (f .2)) q
-
--- nothing happened
-pub past-kept : (d : Both) (n : ℕ) (up : Bool) (w : Work) (k : ℕ) (held : Page) (un : List disks.Under) (es fs : List Event) → fs ≡ es →
-    Reached d n up w k held un (past-of es []) → Reached d n up w k held un (past-of fs [])
-past-kept d n up w k held un es fs e q = let P : List Event → Type 0 = λ x. Reached d n up w k held un (past-of x []) in subst P (sym e) q
 
 -- new disks
 pub makes : (d e : Both) (n : ℕ) (w : Work) (k : ℕ) (held : Page) (r : Bool) (es : List Event) → Makes n (Some w) → Of-pages n d → ((b : List Page) → k ≡ length (work-writes w b)) →

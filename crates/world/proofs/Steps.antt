@@ -46,6 +46,9 @@ use Rattle.engine.proofs.Living.{ran-alive, view-alive, busy, run-lives, rested
 use Rattle.world.specs.Reached.{Held-for, Goes-by, Lived-by, Reached}
 use Rattle.world.proofs.Lists.{some-same, drop-item, on-first, pair-held, first-held, keep-item}
 
+back-to : {A : Type 0} (P : A → Type 0) {x y : A} → x ≡ y → P y → P x
+back-to P e p = subst P (sym e) p
+
 list-second : (p : Page) → nth (p ∷ (p ∷ [])) 1 ≡ p
 unfolding nth
 list-second p = refl
@@ -231,7 +234,7 @@ began d e n w k held t c page hs al none start q = (q .0, q .1, λ there.
     let W : List (On Put) → Type 0 = λ ws. Lived plain register l (busy [] true (u (reply-means (t .reply) page) ∷ []) hs (view e) ws) in
     let by = begun-by d e (t .work) b held (here .1) r (f .3 .2) (f .3 .3) in
     let there-on = run-lives l [] true (u (reply-means (t .reply) page) ∷ []) hs (mirrored copies (puts-of l b c)) r (view-alive e there) (subst A (sym (f .3 .0)) on) in
-    (by .0, by .1, subst W (sym (by .2 ∙ f .3 .1)) there-on))
+    (by .0, by .1, back-to W (by .2) (back-to W (f .3 .1) there-on)))
 
 -- no disk was left while it was read
 pub began-none : (d e : Both) (n : ℕ) (up : Bool) (w : Work) (k : ℕ) (held : Page) (c : Call) (page : Page) (hs : List Happening) → up ≡ true → one-lives d ≡ true → ((b : List Page) → drop k (work-writes w b) ≡ []) →

@@ -1,2 +1,3 @@
 pub mod Means
 pub mod Reached
+pub mod Steps

@@ -4,7 +4,7 @@
 // note of what happened, is done first.
 ghost use mathlib.Core.Path.{_≡_};
 ghost use mathlib.Core.Bool.{Bool, true, false};
-ghost use mathlib.Core.List.{List, [], _∷_};
+ghost use mathlib.Core.List.{List, [], _∷_, _++_};
 ghost use Prim.Native.Nat.{_+_, _≤_};
 ghost use lib.Dec.{leb};
 ghost use lib.ListN.{length};
@@ -16,7 +16,9 @@ ghost use Rattle.model.specs.Disks.{Happening, cut};
 ghost use Rattle.device.specs.Ran.{one-lives};
 ghost use Rattle.engine.specs.Works.{work-writes};
 ghost use Rattle.world.specs.Means.{disk-of, both-of, event-of, past-of, under-of};
+ghost use Rattle.engine.specs.Living.{Explained};
 ghost use Rattle.world.specs.Reached.{Reached};
+ghost use Rattle.world.specs.Steps.{Asks, Tells, Cuts, alive-of};
 use crate::history::Asked;
 use crate::history::Event;
 use crate::history::Told;
@@ -83,7 +85,8 @@ fn raw_disk(heap: Global, pages: u32) -> Result<MemDisk, AllocError>
 
 // What is noted in the past when power goes.
 fn cut_event(under: Option<Under>) -> Event
-    ensures { λ r. ⌜ ((hs : List Happening) → event-of r ∷ hs ≡ cut (under-of under) hs) ⌝ }
+    ensures means { λ r. ⌜ ((hs : List Happening) → event-of r ∷ hs ≡ cut (under-of under) hs) ⌝ }
+    ensures event { λ r. ⌜ ((es : List Event) → Cuts under es (es ++ (r ∷ []))) ⌝ }
 {
     match under {
         Some(under) => Event::Cut(under.call),
@@ -136,7 +139,11 @@ impl World {
     }
 
     // A call begins, if none is under way.
-    pub fn begin(&mut self, asked: &Asked) -> bool {
+    pub fn begin(&mut self, asked: &Asked) -> bool
+        ensures begun { λ r. ⌜ (r ≡ true → (now (self .exit) .next ≡ 0) × Asks (now (self .exit) .under) (now (asked .entry))) ⌝ }
+        ensures refused { λ r. ⌜ (r ≡ false → now (self .exit) .under ≡ now (self .entry) .under) ⌝ }
+        ensures past { λ _. ⌜ now (self .exit) .past ≡ now (self .entry) .past ⌝ }
+    {
         if !self.up || !self.is_idle() || self.under.is_some() || !self.has_disk() {
             return false;
         }
@@ -159,7 +166,11 @@ impl World {
     }
 
     // The next block is written. False: there is none.
-    pub fn write_next(&mut self) -> bool {
+    pub fn write_next(&mut self) -> bool
+        ensures written { λ r. ⌜ (r ≡ true → now (self .exit) .next ≡ now (self .entry) .next + 1) ⌝ }
+        ensures refused { λ r. ⌜ (r ≡ false → now (self .exit) .next ≡ now (self .entry) .next) ⌝ }
+        ensures past { λ _. ⌜ now (self .exit) .past ≡ now (self .entry) .past ⌝ }
+    {
         if self.next >= self.work.len() || !self.has_disk() {
             return false;
         }
@@ -174,7 +185,11 @@ impl World {
     }
 
     // The call under way is answered, if all is written.
-    pub fn tell(&mut self) -> bool {
+    pub fn tell(&mut self) -> bool
+        ensures told { λ r. ⌜ (r ≡ true → Tells (now (self .entry) .under) (vec-items (now (self .entry) .past)) (vec-items (now (self .exit) .past))) ⌝ }
+        ensures refused { λ r. ⌜ (r ≡ false → (now (self .exit) .under ≡ now (self .entry) .under) × (vec-items (now (self .exit) .past) ≡ vec-items (now (self .entry) .past))) ⌝ }
+        ensures disks { λ _. ⌜ now (self .exit) .disks ≡ now (self .entry) .disks ⌝ }
+    {
         if !self.up || !self.is_idle() || !self.has_disk() {
             return false;
         }
@@ -190,7 +205,11 @@ impl World {
     }
 
     // A disk dies, if the other lives.
-    pub fn kill(&mut self, side: Side) -> bool {
+    pub fn kill(&mut self, side: Side) -> bool
+        ensures dead { λ r. ⌜ (r ≡ true → alive-of side (now (self .exit) .disks) ≡ false) ⌝ }
+        ensures refused { λ r. ⌜ (r ≡ false → now (self .exit) .disks ≡ now (self .entry) .disks) ⌝ }
+        ensures past { λ _. ⌜ now (self .exit) .past ≡ now (self .entry) .past ⌝ }
+    {
         match side {
             Side::First => {
                 if !self.disks.second.is_alive() {
@@ -209,7 +228,10 @@ impl World {
     }
 
     // Power goes: a call under way is cut, and recovery begins.
-    pub fn power(&mut self) -> bool {
+    pub fn power(&mut self) -> bool
+        ensures gone { λ r. ⌜ (r ≡ true → (now (self .exit) .up ≡ false) × Cuts (now (self .entry) .under) (vec-items (now (self .entry) .past)) (vec-items (now (self .exit) .past))) ⌝ }
+        ensures refused { λ r. ⌜ (r ≡ false → (now (self .exit) .up ≡ now (self .entry) .up) × (vec-items (now (self .exit) .past) ≡ vec-items (now (self .entry) .past))) ⌝ }
+    {
         if !self.up || !self.has_disk() {
             return false;
         }
@@ -231,7 +253,11 @@ impl World {
     }
 
     // Power goes again while recovery is under way, and recovery begins anew.
-    pub fn power_again(&mut self) -> bool {
+    pub fn power_again(&mut self) -> bool
+        ensures gone { λ r. ⌜ (r ≡ true → now (self .exit) .next ≡ 0) ⌝ }
+        ensures up { λ _. ⌜ now (self .exit) .up ≡ now (self .entry) .up ⌝ }
+        ensures past { λ _. ⌜ now (self .exit) .past ≡ now (self .entry) .past ⌝ }
+    {
         if self.up || !self.has_disk() {
             return false;
         }
@@ -255,7 +281,11 @@ impl World {
     }
 
     // Recovery is done, if all of it is written.
-    pub fn recovered(&mut self) -> bool {
+    pub fn recovered(&mut self) -> bool
+        ensures up { λ r. ⌜ (r ≡ true → now (self .exit) .up ≡ true) ⌝ }
+        ensures refused { λ r. ⌜ (r ≡ false → now (self .exit) .up ≡ now (self .entry) .up) ⌝ }
+        ensures past { λ _. ⌜ now (self .exit) .past ≡ now (self .entry) .past ⌝ }
+    {
         if self.up || !self.is_idle() {
             return false;
         }
@@ -341,8 +371,19 @@ impl World {
         self.under
     }
 
-    pub fn past(&self) -> &[Event] {
+    // What happened.
+    pub fn past(&self) -> &[Event]
+        ensures { λ r. ⌜ now r ≡ vec-items (now (self .entry) .past) ⌝ }
+    {
         self.past.as_slice()
+    }
+
+    // Whether a book explains what happened. It does, whatever steps were taken, in every world but one on
+    // whose disks bytes were put by hand; of that one nothing is known.
+    pub fn is_explained(&self) -> bool
+        ensures { λ r. ⌜ (r ≡ true → ∥ Explained (now (self .entry) .pages) (past-of (vec-items (now (self .entry) .past)) []) ∥₁) ⌝ }
+    {
+        !self.touched
     }
 
     // A disk's bytes, as they were when it died if it did.
