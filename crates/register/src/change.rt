@@ -81,5 +81,10 @@ pub fn change_pages(rt: &LibcRuntime, register: &mut Register, pages: &Vec<NewPa
     for new in pages.iter() {
         write_page(rt, register, new.page, &new.bytes)?;
     }
-    close(rt, register)
+    close(rt, register)?;
+    let count = pages.len();
+    match println!(rt, "done: {count} pages changed") {
+        Ok(()) => Ok(()),
+        Err(error) => Err(refuse(rt, format_args!("the pages are changed, but that can't be told: {error}"))),
+    }
 }
