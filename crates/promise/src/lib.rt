@@ -12,8 +12,8 @@ ghost use Rattle.promise.specs.LateReading.{Log-same, Reads-late};
 ghost use Rattle.promise.specs.Bounds.{Stays-within, Makes-each-once, Call-counts, Recovery-counts, Stays-bounded};
 
 // The main promise: whatever happens, whenever power goes and whichever disk dies when, there is a book
-// that explains every answer. For any number of disks in a list, and for two with names; for the first
-// stage, which refuses size, and for all calls.
+// that explains every answer. For any number of disks in a list, and for two with names; for a
+// register without size, and for one with all calls.
 pub fn main_promise() -> u8
     ensures list_thin { λ _. ⌜ Right plain thin register ⌝ }
     ensures list_all { λ _. ⌜ Right plain all register ⌝ }

@@ -54,7 +54,7 @@ pub impl From<AllocError> for Unmade as UnmadeByMemory {
     }
 }
 
-// A disk that holds whatever was in memory; a register writes every block of it when it is made.
+// A disk before it is made new: a register writes every block of it.
 fn raw_disk(heap: Global, pages: u32) -> Result<MemDisk, AllocError> {
     let bytes = vec![in heap; 0; 1024 * Layout::blocks(pages) as usize]?;
     Ok(MemDisk::new(bytes, u64::MAX))
