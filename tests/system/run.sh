@@ -7,7 +7,7 @@ for tool in cc python3; do
         exit 1
     fi
 done
-work=$(mktemp -d) || exit 1
+work=$(mktemp -d -p /dev/shm 2>/dev/null || mktemp -d) || exit 1
 trap 'rm -rf "$work"' EXIT
 cc -Wall -Werror -O1 -shared -fPIC -o "$work/faults.so" faults.c -ldl || exit 1
-python3 test_register.py "$work" ../../target/bin/register
+python3 -B test_register.py "$work" ../../target/bin/register "$@"

@@ -145,7 +145,8 @@ fn refuse_strange(rt: &LibcRuntime, side: Side, front: &Front, pages: u32) -> Re
         return Ok(());
     }
     let name = side_name(side);
-    Err(refuse(rt, format_args!("the {name} disk has a header that no register of {pages} pages writes; nothing was changed; give - in its place to leave it out")))
+    let fault = front.fault();
+    Err(refuse(rt, format_args!("the {name} disk has a header that no register of {pages} pages writes: {fault}; nothing was changed; if this disk is to be left out, give - in its place")))
 }
 
 // Refuses two disks that no register can have left so.
@@ -265,6 +266,19 @@ fn recover(rt: &LibcRuntime, disks: FilePair, pages: u32, log: Log) -> Result<Re
     })
 }
 
+// Refuses disks that are both dead.
+fn refuse_both_dead(rt: &LibcRuntime, first: &Option<String>, second: &Option<String>) -> Result<(), Stop> {
+    let Some(first) = first else {
+        return Ok(());
+    };
+    let Some(second) = second else {
+        return Ok(());
+    };
+    let first = first.as_str();
+    let second = second.as_str();
+    Err(refuse(rt, format_args!("the first disk is dead {first}; the second disk is dead {second}; there is no disk to go on with, and nothing was changed")))
+}
+
 // Starts the register on files that were opened.
 pub fn start(rt: &LibcRuntime, files: Files, trace: bool) -> Result<Register, Stop> {
     let Joined {
@@ -274,12 +288,10 @@ pub fn start(rt: &LibcRuntime, files: Files, trace: bool) -> Result<Register, St
         second_death,
     } = join(rt, files, trace)?;
     let mut disks = disks;
+    refuse_both_dead(rt, &first_death, &second_death)?;
+    let log = look_through(rt, &mut disks, pages)?;
     say_death(rt, Side::First, &first_death);
     say_death(rt, Side::Second, &second_death);
-    if first_death.is_some() && second_death.is_some() {
-        return Err(refuse(rt, "there is no disk to go on with; nothing was changed"));
-    }
-    let log = look_through(rt, &mut disks, pages)?;
     note_known(&mut disks, Side::First, &first_death)?;
     note_known(&mut disks, Side::Second, &second_death)?;
     recover(rt, disks, pages, log)
