@@ -3,9 +3,12 @@ ghost use mathlib.Core.Path.{_≡_};
 ghost use mathlib.Core.Bool.{true, false, cond};
 ghost use Rattle.std.specs.declared.option.Option.the-variants.{Some};
 ghost use Rattle.std.specs.Of.Vec.{vec-items};
+ghost use Rattle.std.specs.Vec.{made};
 ghost use Rattle.device.specs.Blocks.{whole};
 use crate::Device;
 use crate::blocks;
+use std::alloc::AllocError;
+use std::alloc::Global;
 
 #[derive(Drop)]
 pub struct MemDisk {
@@ -33,6 +36,25 @@ impl MemDisk {
         ensures alive { λ _. ⌜ now (self .exit) .alive ≡ false ⌝ }
     {
         self.alive = false;
+    }
+
+    // Dies after so many more reads and writes, if it lives.
+    pub fn set_left(&mut self, left: u64)
+        ensures bytes { λ _. ⌜ now (self .exit) .bytes ≡ now (self .entry) .bytes ⌝ }
+        ensures alive { λ _. ⌜ now (self .exit) .alive ≡ now (self .entry) .alive ⌝ }
+    {
+        self.left = left;
+    }
+
+    // Another disk, as this one is now.
+    pub fn copy(&self, heap: Global) -> Result<MemDisk, AllocError>
+        ensures { λ r. ⌜ made r (λ d. (vec-items (d .bytes) ≡ vec-items (now (self .entry) .bytes)) × (d .alive ≡ now (self .entry) .alive)) ⌝ }
+    {
+        Ok(MemDisk {
+            bytes: Vec::from_slice(heap, self.bytes.as_slice())?,
+            alive: self.alive,
+            left: self.left,
+        })
     }
 
     // All its bytes, as it was when it died if it did.

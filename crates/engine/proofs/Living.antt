@@ -13,7 +13,7 @@ use Rattle.std.specs.declared.option.Option.the-variants.{None, Some}
 use Rattle.std.proofs.shelf.Tests.{both-ways, or-cases, or-parts, or-left, or-right}
 use Rattle.model.specs.Numbers.{first-page, copies}
 use Rattle.model.specs.Book.{Page, nth, Call, Limits, Book, answer}
-use Rattle.model.specs.Disks.{Disk, On, View, World, Happening, was-told, Under, Lived, Fallen, Fit, wrote, wrote-one, wrote-all, killed, killed-from, alive, seen}
+use Rattle.model.specs.Disks.{Disk, On, View, World, Happening, was-told, Under, Lived, Fallen, Fit, cut, wrote, wrote-one, wrote-all, killed, killed-from, alive, seen}
 use Rattle.model.specs.Disks.Lived.{begins, one-written, answered, dies, power, power-again, mended}
 use Rattle.model.specs.Plain.{Put, put, plain}
 use Rattle.model.specs.Promise.{Right, Explains, all}
@@ -33,7 +33,7 @@ use Rattle.engine.specs.declared.call.Reply.{Reply}
 use Rattle.engine.specs.Calling.{limits, Agree, reply-means, Answered, By-reply}
 use Rattle.engine.specs.Doing.{Log-same}
 use Rattle.engine.specs.Recovering.{source-of, Of-pages, Log-agrees, Recovered}
-use Rattle.engine.specs.Living.{resting, Reached, Explained, By-life, Answer-lives, Recovery-lives}
+use Rattle.engine.specs.Living.{resting, Reached, Explained, By-life, Answer-lives, Recovery-lives, Stopped-call-lives, Stopped-recovery-lives}
 
 abbrev id : List Page → List Page
 id b = b
@@ -217,3 +217,19 @@ recovery-lives s t n r rec d w is size lived down disks =
         let todo = recovery-writes (seen id (view e)) in
         let T : List (On Put) → Type 0 = λ ws. Lived plain register l (busy [] false [] (w .past) (view e) ws) in
         mended (run-lives l [] false [] (w .past) [] ran al (subst T (sym (append-nil todo)) again)) refl refl
+
+-- stopped by power: what was done of the writes, and then power
+pub stopped-call-lives : Stopped-call-lives
+unfolding seen cut
+stopped-call-lives n d e hs c ws us size lived is ran al =
+    let l = limits n in
+    let u : Under = record { call = c; answer = answer l (book-of (source-of d)) c; memory = [] } in
+    let T : List (On Put) → Type 0 = λ x. Lived plain register l (busy [] true (u ∷ []) hs (view d) x) in
+    let begun : T (mirrored copies (puts-of l (source-of d) c)) = begins c lived refl refl refl in
+    power (view e) (run-lives l [] true (u ∷ []) hs us ran (view-alive e al) (subst T is begun)) (fallen-none e) refl
+
+pub stopped-recovery-lives : Stopped-recovery-lives
+stopped-recovery-lives n d e hs ws us lived is ran al =
+    let l = limits n in
+    let T : List (On Put) → Type 0 = λ x. Lived plain register l (busy [] false [] hs (view d) x) in
+    power-again (view e) (run-lives l [] false [] hs us ran (view-alive e al) (subst T is lived)) (fallen-none e) refl

@@ -5,7 +5,6 @@ use crate::mark::Mark;
 use device::mirror::Side;
 use script::order::Command;
 use script::order::Fault;
-use script::order::Mishap;
 use script::order::Moment;
 use script::order::Order;
 use script::order::Script;
@@ -24,11 +23,22 @@ pub struct Play {
     marks: Vec<Mark>,
 }
 
+// After how many writes a moment comes; None for one that comes before, while all that is needed is read.
+fn after(moment: Moment) -> Option<u64> {
+    match moment {
+        Moment::Power { after } => Some(after),
+        Moment::Death { after, .. } => Some(after),
+        Moment::Reading { .. } => None,
+    }
+}
+
 // Whether a moment comes after the i-th: after more writes, or after as many and later in the line.
-fn is_followed(moments: &[Moment], i: usize, after: u64) -> bool {
+fn is_followed(moments: &[Moment], i: usize, at: u64) -> bool {
     for j in 0..moments.len() {
-        let other = moments[j].after;
-        if other > after || (other == after && j > i) {
+        let Some(other) = after(moments[j]) else {
+            continue;
+        };
+        if other > at || (other == at && j > i) {
             return true;
         }
     }
@@ -38,11 +48,13 @@ fn is_followed(moments: &[Moment], i: usize, after: u64) -> bool {
 // Whether the moments of a line can come: none after the last write, and none after power.
 fn can_come(moments: &[Moment], count: u64) -> Result<(), Wrong> {
     for i in 0..moments.len() {
-        let Moment { after, mishap } = moments[i];
-        if after > count {
+        let Some(at) = after(moments[i]) else {
+            continue;
+        };
+        if at > count {
             return Err(Wrong::MomentLate);
         }
-        if matches!(mishap, Mishap::Power) && is_followed(moments, i, after) {
+        if matches!(moments[i], Moment::Power { .. }) && is_followed(moments, i, at) {
             return Err(Wrong::MomentAfterPower);
         }
     }
@@ -108,6 +120,9 @@ impl Play {
     }
 
     fn die(&mut self, side: Side) -> Result<(), Wrong> {
+        if !self.world.is_alive(side) {
+            return Err(Wrong::DeadBefore);
+        }
         if !self.world.kill(side) {
             return Err(Wrong::LastDisk);
         }
@@ -124,18 +139,47 @@ impl Play {
     // What strikes after so many writes. True: power went.
     fn struck(&mut self, moments: &[Moment], done: u64, count: u64) -> Result<bool, Wrong> {
         for moment in moments {
-            if moment.after != done {
+            if after(*moment) != Some(done) {
                 continue;
             }
-            match moment.mishap {
-                Mishap::Death(side) => self.die(side)?,
-                Mishap::Power => {
+            match *moment {
+                Moment::Death { side, .. } => self.die(side)?,
+                Moment::Power { .. } => {
                     self.cut(Mark::Cut { done, count })?;
                     return Ok(true);
                 }
+                Moment::Reading { .. } => {}
             }
         }
         Ok(false)
+    }
+
+    // Disks that die while they are read are told so before.
+    fn before_reading(&mut self, moments: &[Moment]) -> Result<(), Wrong> {
+        for moment in moments {
+            let Moment::Reading { side, read } = *moment else {
+                continue;
+            };
+            if !self.world.is_alive(side) {
+                return Err(Wrong::DeadBefore);
+            }
+            self.world.set_left(side, read.saturating_sub(1));
+        }
+        Ok(())
+    }
+
+    // What died while it was read; what should have and didn't is a fault of the line.
+    fn after_reading(&mut self, moments: &[Moment]) -> Result<(), Wrong> {
+        for moment in moments {
+            let Moment::Reading { side, .. } = *moment else {
+                continue;
+            };
+            if self.world.is_alive(side) {
+                return Err(Wrong::MomentLate);
+            }
+            self.mark(Mark::Died(side))?;
+        }
+        Ok(())
     }
 
     // All the writes of what is under way, with what strikes before, between and after them. False: power
@@ -172,7 +216,9 @@ impl Play {
     }
 
     fn call(&mut self, asked: &Asked, moments: &[Moment]) -> Result<(), Wrong> {
+        self.before_reading(moments)?;
         let count = self.begin(asked)?;
+        self.after_reading(moments)?;
         if !self.writes(moments, count)? {
             return Ok(());
         }
@@ -237,9 +283,11 @@ impl Play {
         if self.world.is_up() {
             return Err(Wrong::PowerThere);
         }
+        self.before_reading(moments)?;
         if !self.world.cut() {
             return Err(Wrong::NoDisk);
         }
+        self.after_reading(moments)?;
         let count = self.world.count();
         if !self.writes(moments, count)? {
             return Ok(());

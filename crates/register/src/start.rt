@@ -5,8 +5,6 @@ use crate::stop::Stop;
 use crate::stop::StopFromAllocError;
 use crate::stop::refuse;
 use device::mirror::Side;
-use engine::perform::finish;
-use engine::recover::begin_recovery;
 use engine::work::Work;
 use files::disk::FileDisk;
 use guard::inspect::Front;
@@ -290,12 +288,9 @@ pub fn life(disks: &FilePair, side: Side) -> &'static str {
 // Recovers the disks, and says what was mended.
 fn recover(rt: &LibcRuntime, disks: FilePair, pages: u32, log: Log) -> Result<Register, Stop> {
     let mut disks = disks;
-    let Some(work) = begin_recovery(&mut disks, pages) else {
+    let Some(work) = engine::recover::recover(&mut disks, pages) else {
         return Err(both_dead(rt));
     };
-    if !finish(&mut disks, &work) {
-        return Err(both_dead(rt));
-    }
     let mended = mended_by(&work, log);
     let first = life(&disks, Side::First);
     let second = life(&disks, Side::Second);

@@ -5,18 +5,15 @@ use std::alloc::Refused;
 use std::fmt;
 use world::history::Asked;
 
-// What strikes the disks.
+// What strikes the disks while a call or recovery is under way.
 #[derive(Clone, Copy)]
-pub enum Mishap {
-    Power,
-    Death(Side),
-}
-
-// A mishap while a call or recovery is under way: after so many of its writes are done.
-#[derive(Clone, Copy)]
-pub struct Moment {
-    pub after: u64,
-    pub mishap: Mishap,
+pub enum Moment {
+    // Power goes after so many of its writes are done.
+    Power { after: u64 },
+    // A disk dies after so many of its writes are done.
+    Death { side: Side, after: u64 },
+    // A disk dies while what is needed is read, at the beginning: at its read of this number, from 1 on.
+    Reading { side: Side, read: u64 },
 }
 
 #[derive(Clone, Copy)]
@@ -74,7 +71,9 @@ pub enum Wrong {
     MomentLate,
     MomentAfterPower,
     LastDisk,
+    DeadBefore,
     SetOutside,
+    NotExplored,
     NoDisk,
     Memory,
 }
@@ -94,13 +93,15 @@ impl Wrong {
             Wrong::Set => "setting bytes is `set BLOCK BYTES`",
             Wrong::Bytes => "bytes are pairs of hexadecimal digits, or a pair, `*` and how often",
             Wrong::TooLong => "there are more than 1,030 bytes",
-            Wrong::Moment => "a moment is `power`, `first` or `second` and a number of writes",
+            Wrong::Moment => "a moment is `power`, `first` or `second` and a number of writes, or `first-read` or `second-read` and the number of a read",
             Wrong::NoMoments => "only a call and `recover` have moments",
             Wrong::PowerGone => "power is gone: only `recover`, `power` and `die` are possible",
             Wrong::PowerThere => "power is there, and there is nothing to recover",
-            Wrong::MomentLate => "there are fewer writes than a moment says",
+            Wrong::MomentLate => "there are fewer writes, or reads, than a moment says",
             Wrong::MomentAfterPower => "a moment comes after power went",
             Wrong::LastDisk => "the other disk is dead, and one has to live",
+            Wrong::DeadBefore => "the disk is dead already",
+            Wrong::NotExplored => "`times` and `set` are only played, and not explored",
             Wrong::SetOutside => "there is no such block, or more bytes than a block has",
             Wrong::NoDisk => "no disk lives",
             Wrong::Memory => "there is not enough memory",
@@ -144,12 +145,15 @@ pub fn side_name(side: Side) -> &'static str {
 
 pub impl fmt::Display for Moment as MomentDisplay {
     fn fmt<W: fmt::Write>(&self, f: &mut fmt::Formatter<W>) -> fmt::Result {
-        let after = self.after;
-        match self.mishap {
-            Mishap::Power => write!(f, "power {after}"),
-            Mishap::Death(side) => {
+        match *self {
+            Moment::Power { after } => write!(f, "power {after}"),
+            Moment::Death { side, after } => {
                 let name = side_name(side);
                 write!(f, "{name} {after}")
+            }
+            Moment::Reading { side, read } => {
+                let name = side_name(side);
+                write!(f, "{name}-read {read}")
             }
         }
     }

@@ -6,7 +6,6 @@ use crate::hex::number_u32;
 use crate::hex::push_bytes;
 use crate::order::Command;
 use crate::order::Fault;
-use crate::order::Mishap;
 use crate::order::Moment;
 use crate::order::Order;
 use crate::order::Script;
@@ -34,7 +33,7 @@ fn words_of<'a>(heap: Global, line: &'a str) -> Result<Vec<&'a str>, AllocError>
 }
 
 fn is_moment(word: &str) -> bool {
-    word == "power" || word == "first" || word == "second"
+    matches!(word, "power" | "first" | "second" | "first-read" | "second-read")
 }
 
 // Where the moments of a line begin: at the first word of theirs behind the line's own first word.
@@ -49,35 +48,44 @@ fn moments_at(words: &[&str]) -> usize
     words.len()
 }
 
-fn side(word: &str) -> Option<Side> {
+// One moment, by its word and its number.
+fn moment(word: &str, number: u64) -> Option<Moment> {
     match word {
-        "first" => Some(Side::First),
-        "second" => Some(Side::Second),
+        "power" => Some(Moment::Power { after: number }),
+        "first" => Some(Moment::Death {
+            side: Side::First,
+            after: number,
+        }),
+        "second" => Some(Moment::Death {
+            side: Side::Second,
+            after: number,
+        }),
+        "first-read" => Some(Moment::Reading {
+            side: Side::First,
+            read: number,
+        }),
+        "second-read" => Some(Moment::Reading {
+            side: Side::Second,
+            read: number,
+        }),
         _ => None,
     }
 }
 
-fn mishap(word: &str) -> Option<Mishap> {
-    if word == "power" {
-        return Some(Mishap::Power);
-    }
-    match side(word) {
-        Some(side) => Some(Mishap::Death(side)),
-        None => None,
-    }
-}
-
-// Moments: each a word and after how many writes.
+// Moments: each a word and a number.
 fn moments(heap: Global, words: &[&str]) -> Result<Vec<Moment>, Wrong> {
     let mut moments = Vec::new(heap);
     if words.len() % 2 != 0 {
         return Err(Wrong::Moment);
     }
     for i in 0..words.len() / 2 {
-        let (Some(mishap), Some(after)) = (mishap(words[2 * i]), number(words[2 * i + 1])) else {
+        let Some(number) = number(words[2 * i + 1]) else {
             return Err(Wrong::Moment);
         };
-        moments.push(Moment { after, mishap })?;
+        let Some(moment) = moment(words[2 * i], number) else {
+            return Err(Wrong::Moment);
+        };
+        moments.push(moment)?;
     }
     Ok(moments)
 }

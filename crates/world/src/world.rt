@@ -54,7 +54,7 @@ pub impl From<AllocError> for Unmade as UnmadeByMemory {
     }
 }
 
-// A disk that holds whatever was in memory; a register writes every block of it when it is made.
+// A disk before it is made new: a register writes every block of it.
 fn raw_disk(heap: Global, pages: u32) -> Result<MemDisk, AllocError> {
     let bytes = vec![in heap; 0; 1024 * Layout::blocks(pages) as usize]?;
     Ok(MemDisk::new(bytes, u64::MAX))
@@ -200,6 +200,31 @@ impl World {
         }
         self.up = true;
         true
+    }
+
+    // A disk dies after so many more reads and writes, if it lives: so it can die while it is read.
+    pub fn set_left(&mut self, side: Side, left: u64) {
+        match side {
+            Side::First => self.disks.first.set_left(left),
+            Side::Second => self.disks.second.set_left(left),
+        }
+    }
+
+    // Another world, as this one is now.
+    pub fn copy(&self, heap: Global) -> Result<World, AllocError> {
+        Ok(World {
+            disks: Mirror {
+                first: self.disks.first.copy(heap)?,
+                second: self.disks.second.copy(heap)?,
+            },
+            pages: self.pages,
+            up: self.up,
+            work: self.work,
+            next: self.next,
+            held: self.held,
+            under: self.under,
+            past: Vec::from_slice(heap, self.past.as_slice())?,
+        })
     }
 
     // Puts bytes at the start of a block on both disks, at rest. No register does this, and nothing is
