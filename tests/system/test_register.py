@@ -539,13 +539,14 @@ def test_what_a_start_says(register):
     run = register.serve(SCRIPT[:2])
     assert "2 writes were not closed and are dropped" in run.err, run
     run = register.serve([])
-    assert "2 writes that were not closed are dropped" in run.err, run
+    assert "mended; 2 writes were not closed and are dropped" in run.err, run
     run = register.serve([])
     assert run.err == "register: first disk alive, second disk alive, 3 pages, nothing to mend\n", run
     register.new_disks()
     register.serve(SCRIPT, faults="kill:write:*:17")
     run = register.serve([])
-    assert "2 pages of a close that was cut" in run.err and "block 258, as it is on the first disk" in run.err, run
+    assert "; block 258 is on the second disk now as on the first" in run.err, run
+    assert "; a close that was cut is done, pages: 2" in run.err, run
 
 
 def test_check_tells(register):
@@ -555,7 +556,7 @@ def test_check_tells(register):
     assert run.status == 0, run
     assert run.out == (
         b"first disk: alive\nsecond disk: alive\ndisks: the same\npages: 3\n"
-        b"recovery: mended: 1 writes that were not closed are dropped\n"
+        b"recovery: mended; 1 write was not closed and is dropped\n"
     ), run
 
 
@@ -635,7 +636,7 @@ def test_broken_frames(register):
         assert "the input ends within a call" in run.err, run
     check_book(register, [BOOKS[1]])
     run = register.run("serve", "first", "second", given=frames(SCRIPT[:1]) + b"\xff\xff\xff\xff")
-    assert run.status == 1 and "1 writes were not closed" in run.err, run
+    assert run.status == 1 and "1 write was not closed" in run.err, run
 
 
 # Reading and changing by the command line.

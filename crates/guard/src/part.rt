@@ -55,7 +55,11 @@ pub fn side_name(side: Side) -> &'static str {
 }
 
 // What a block's bytes are, in words.
-fn show_content<W: fmt::Write>(f: &mut fmt::Formatter<W>, part: Part, bytes: &[u8; 1024]) -> fmt::Result {
+fn show_content<W: fmt::Write>(
+    f: &mut fmt::Formatter<W>,
+    part: Part,
+    bytes: &[u8; 1024],
+) -> fmt::Result {
     match part {
         Part::Header => show_header(f, flag_of(bytes) == 1, count_of(bytes)),
         Part::List => f.write_str("list"),
