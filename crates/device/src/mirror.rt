@@ -21,11 +21,11 @@ pub trait Pair {
     // What both hold, and which of them live, where that is known.
     ghost disks: { Self → Option Both };
 
-    // Writes a block on one of the two. False: that one is dead, and nothing was written.
+    // Writes a block on one of the two; nothing where that one is dead.
     fn write(&mut self, side: Side, block: u64, bytes: &[u8; 1024]) -> bool
         ensures { λ _. ⌜ Did (disks (now (self .entry))) (disks (now (self .exit))) (on (side-number side) (record { block = block; content = now (bytes .entry) }) ∷ []) ⌝ };
 
-    // Reads as many whole blocks as fit off the first that lives. False: both are dead.
+    // Reads as many whole blocks as fit off one that lives. False: both are dead.
     fn read(&mut self, from: u64, out: &mut [u8]) -> bool
         ensures { λ r. ⌜ Fetched (disks (now (self .entry))) (disks (now (self .exit))) from (now (out .exit)) r ⌝ };
 

@@ -7,3 +7,4 @@ pub mod Living
 pub mod Scanning
 pub mod Recovering
 pub mod Made
+pub mod Packing

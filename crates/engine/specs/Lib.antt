@@ -4,3 +4,4 @@ pub mod Calling
 pub mod Living
 pub mod Recovering
 pub mod Making
+pub mod Memory

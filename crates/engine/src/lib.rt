@@ -5,6 +5,7 @@
 // after the last is the answer told. The code is written once, for any pair of disks.
 pub mod call;
 pub mod make;
+pub mod memory;
 pub mod perform;
 pub mod recover;
 pub mod stopped;

@@ -6,7 +6,7 @@
 ghost use mathlib.Core.Path.{_≡_};
 ghost use Prim.Native.Nat.{_+_, _*_, _<_, _≤_};
 ghost use lib.ListN.{length};
-ghost use Rattle.std.specs.Options.{Cases as BySome};
+ghost use Rattle.std.specs.Options.{Cases as BySome, isSome};
 ghost use Rattle.device.specs.Blocks.{block-of};
 ghost use Rattle.engine.specs.Living.{Recovery-lives};
 ghost use Rattle.engine.specs.Recovering.{Highest, blocks-in, Piece-read, Scanned, Works-out, Recovery-begun, Recovered};
@@ -124,13 +124,19 @@ pub fn begin_recovery<P: Pair>(disks: &mut P, pages: u32) -> Option<Work>
     Some(replaying(None, block, &first, pages))
 }
 
-// A whole recovery. False: both disks are dead.
-pub fn recover<P: Pair>(disks: &mut P, pages: u32) -> bool
-    ensures done { λ r. ⌜ Recovered (P·Pair .disks (now (disks .entry))) (P·Pair .disks (now (disks .exit))) pages r ⌝ }
-    ensures lives { λ r. ⌜ Recovery-lives (P·Pair .disks (now (disks .entry))) (P·Pair .disks (now (disks .exit))) pages r ⌝ }
+// A whole recovery: what it wrote, for a report. None: both disks are dead.
+//
+// On disks of which all is known, after power went in a world that can be reached, it leads to disks at rest
+// that are reachable, with the same past.
+pub fn recover<P: Pair>(disks: &mut P, pages: u32) -> Option<Work>
+    ensures done { λ r. ⌜ Recovered (P·Pair .disks (now (disks .entry))) (P·Pair .disks (now (disks .exit))) pages (isSome r) ⌝ }
+    ensures lives { λ r. ⌜ Recovery-lives (P·Pair .disks (now (disks .entry))) (P·Pair .disks (now (disks .exit))) pages (isSome r) ⌝ }
 {
     let Some(work) = begin_recovery(disks, pages) else {
-        return false;
+        return None;
     };
-    finish(disks, &work)
+    if !finish(disks, &work) {
+        return None;
+    }
+    Some(work)
 }

@@ -5,6 +5,8 @@
 // make something of them all the same, so they are looked at first.
 ghost use Prim.Native.Nat.{_≤_};
 use device::mirror::Pair;
+use layout::header::count_of;
+use layout::header::flag_of;
 use layout::log::Log;
 use layout::log::is_sane;
 use layout::places::Layout;
@@ -92,6 +94,18 @@ impl Front {
     pub fn is_sane(&self, pages: u32) -> bool {
         let bytes = self.bytes;
         is_sane(&bytes[0..1024], &bytes[1024..2048], pages)
+    }
+
+    // Why no register wrote them, in words; asked of a front that is not sane.
+    pub fn fault(&self) -> &'static str {
+        let bytes = self.bytes;
+        if flag_of(&bytes[0..1024]) > 1 {
+            return "its first byte is neither 0 nor 1";
+        }
+        if count_of(&bytes[0..1024]) > Layout::ROOM {
+            return "it counts more writes than the log has room for";
+        }
+        "the list names a page that is not there"
     }
 
     // What they say of the log.

@@ -110,7 +110,10 @@ pub fn set(rt: &LibcRuntime, disk: &str, mark: Mark, text: &str) -> Result<(), i
     let Ok(name) = mark_name(rt, disk, mark) else {
         return Err(libc::ENOMEM);
     };
-    let file = have(name.as_str(), text)?;
+    let Ok(line) = format!(rt.alloc(), "{text}\n") else {
+        return Err(libc::ENOMEM);
+    };
+    let file = have(name.as_str(), line.as_str())?;
     file.sync()?;
     sync_folder(name.as_str())
 }

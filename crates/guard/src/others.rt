@@ -22,7 +22,12 @@ fn may_write(told: &str) -> bool {
 }
 
 // Whether a process has one of the files open to be written under this number.
-fn writes_one(rt: &LibcRuntime, process: i32, number: &str, files: &[Identity]) -> io::Result<bool> {
+fn writes_one(
+    rt: &LibcRuntime,
+    process: i32,
+    number: &str,
+    files: &[Identity],
+) -> io::Result<bool> {
     let name = format!(rt.alloc(), "/proc/{process}/fd/{number}")?;
     let Ok(known) = of_name(name.as_bytes()) else {
         return Ok(false);

@@ -136,7 +136,10 @@ impl FilePair {
             return true;
         };
         let error = Error::from_raw_os_error(error);
-        let _ = eprintln!(self.rt, "register: this can't be noted beside the other disk: {error}; nothing more is done");
+        let _ = eprintln!(
+            self.rt,
+            "register: this can't be noted beside the other disk: {error}; nothing more is done"
+        );
         self.give_up()
     }
 

@@ -54,12 +54,29 @@ pub fn side_name(side: Side) -> &'static str {
     }
 }
 
-// A header in words.
-fn holds_text(bytes: &[u8; 1024]) -> &'static str {
-    if flag_of(bytes) == 1 {
-        return "holding";
+// What a block's bytes are, in words.
+fn show_content<W: fmt::Write>(
+    f: &mut fmt::Formatter<W>,
+    part: Part,
+    bytes: &[u8; 1024],
+) -> fmt::Result {
+    match part {
+        Part::Header => show_header(f, flag_of(bytes) == 1, count_of(bytes)),
+        Part::List => f.write_str("list"),
+        Part::Entry(i) => write!(f, "log entry {i}"),
+        Part::Page(page) => write!(f, "page {page}"),
+        Part::Nothing => f.write_str("nothing"),
     }
-    "not holding"
+}
+
+fn show_header<W: fmt::Write>(f: &mut fmt::Formatter<W>, holds: bool, count: u32) -> fmt::Result {
+    if holds {
+        return write!(f, "header: {count} logged, holding");
+    }
+    if count == 0 {
+        return f.write_str("header: empty");
+    }
+    write!(f, "header: {count} logged")
 }
 
 pub impl fmt::Display for Put<'_> as PutDisplay {
@@ -67,16 +84,7 @@ pub impl fmt::Display for Put<'_> as PutDisplay {
         let side = side_name(self.side);
         let block = self.block;
         let bytes = self.bytes;
-        match part_of(block) {
-            Part::Header => {
-                let holds = holds_text(bytes);
-                let count = count_of(bytes);
-                write!(f, "{side} disk, block {block}: header, {holds}, {count} in the log")
-            }
-            Part::List => write!(f, "{side} disk, block {block}: list of the log's pages"),
-            Part::Entry(i) => write!(f, "{side} disk, block {block}: entry {i} of the log"),
-            Part::Page(page) => write!(f, "{side} disk, block {block}: page {page}"),
-            Part::Nothing => write!(f, "{side} disk, block {block}: outside"),
-        }
+        write!(f, "{side:<6}  block {block}  ")?;
+        show_content(f, part_of(block), bytes)
     }
 }

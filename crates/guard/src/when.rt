@@ -33,8 +33,7 @@ struct Date {
 
 // The date of a day, counted from 1 January 1970. Years are taken to begin in March, so that the day that
 // is only there in leap years is a year's last.
-fn date_of(days: u64) -> Date
-{
+fn date_of(days: u64) -> Date {
     let from_0000 = days.min(MOST_DAYS) + 719468;
     let era = from_0000 / 146097;
     let day_of_era = from_0000 % 146097;
@@ -70,6 +69,9 @@ pub impl fmt::Display for Moment as MomentDisplay {
         let hour = seconds / 3600 % 24;
         let minute = seconds / 60 % 60;
         let second = seconds % 60;
-        write!(f, "{year}-{month:02}-{day:02} {hour:02}:{minute:02}:{second:02} UTC")
+        write!(
+            f,
+            "{year}-{month:02}-{day:02} {hour:02}:{minute:02}:{second:02} UTC"
+        )
     }
 }

@@ -20,9 +20,10 @@ use Rattle.model.specs.Promise.{from-block}
 use Rattle.model.proofs.Lists.{length-set-page, nth-set-same, nth-set-other, from-set-below, from-set-above, good-set}
 use Rattle.model.proofs.Puts.{In, Within, within-all, puts-again}
 use Rattle.model.proofs.Safely.{Safely}
+use Rattle.layout.specs.Reading.{sane}
 use Rattle.layout.specs.Header.{header-block, flag-in, holds-in, count-in}
 use Rattle.layout.specs.PageList.{listed}
-use Rattle.layout.proofs.Blocks.{count-header, holds-header, flag-header, good-header, log-holds-is, log-count-is}
+use Rattle.layout.proofs.Blocks.{count-header, holds-header, flag-header, good-header, log-holds-is, log-count-is, sane-from}
 use Rattle.journal.specs.Journal.{pages-of, holds, count, entry, entries-from, entries, header-put, recovery}
 
 -- a put among the pages
@@ -80,6 +81,10 @@ pub record Sound (n : ℕ) (b : List Page) : Type 0 where
 module _ (n : ℕ) (b : List Page) (s : Sound n b) where
   inside-pages : (i : ℕ) → i < room → listed (nth b 1) i < pages-of b
   inside-pages i q = let e : pages-of b ≡ n = omega (arith, s .long) in rw e (s .inside i q)
+
+  -- its header is one that a register may have written
+  pub sound-sane : sane (nth b 0) (nth b 1) (pages-of b) ≡ true
+  sound-sane = sane-from (nth b 0) (nth b 1) (pages-of b) (s .flag) (s .few) inside-pages
 
   pub holds-is : holds b ≡ holds-in (nth b 0)
   holds-is = log-holds-is (nth b 0) (nth b 1) (pages-of b) (s .flag) (s .few) inside-pages

@@ -1,8 +1,8 @@
 // Which calls are taken, and what each that is taken puts on the disk.
 //
 // The refusals are checked in one order, and the first that applies is told: bytes that are no call; a page
-// that hasn't 1,024 bytes; a page that is not there; a write when the
-// log is full. Only the last asks for the log, so all others are told without a look at the disks.
+// that hasn't 1,024 bytes; a page that is not there; a write when the log is full. Only the last asks for the
+// log, so all others are told without a look at the disks.
 ghost use mathlib.Core.Path.{_≡_};
 ghost use mathlib.Core.Bool.{true, false};
 ghost use mathlib.Core.List.{List};

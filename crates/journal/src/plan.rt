@@ -36,7 +36,7 @@ pub struct Step {
 
 #[derive(Clone, Copy, PartialEq, Eq, Debug)]
 pub enum Plan {
-    // A call that writes nothing: a read, or a refusal.
+    // A call that writes nothing: a read, size, or a refusal.
     Nothing,
     // One more write in the log, of which so many are there.
     Write { count: u32, page: u32 },

@@ -12,7 +12,7 @@ use Rattle.model.specs.Disks.{Medium, Program, Happening, was-told, was-cut, p
 abbrev pub Good-limits : (ℕ → Bool) → Limits → Type 0
 Good-limits can l = (1 ≤ l .pages) × (l .pages ≤ most-pages) × ((k : ℕ) → l .calls-can k ≡ can k)
 
--- the first stage reads, writes and closes, and refuses size
+-- a register without size: it reads, writes and closes, and refuses size by 2
 abbrev pub thin : ℕ → Bool
 thin k = ltb k 3
 

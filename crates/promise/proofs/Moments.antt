@@ -1,6 +1,6 @@
 -- The register at any moment: any two living disks differ in one block at most; where the log holds, list
 -- and log are the same on all; and a page that is written next is as the log of each disk has it, so that
--- it may be read from any of them when it is written.
+-- it may be read from any of them when it is written; and every header is one that a register writes.
 use mathlib.Core.Path.{_≡_, refl, sym, ap, subst, _∙_}
 use mathlib.Core.Logic.{_⊎_, inl, inr}
 use mathlib.Core.Bool.{Bool, true, false, cond}
@@ -20,10 +20,11 @@ use Rattle.model.proofs.Puts.{In}
 use Rattle.model.proofs.Safely.{safe-here}
 use Rattle.mirror.proofs.Each.{Each, Has, each-map}
 use Rattle.mirror.proofs.Replicas.{Ahead, Shape, agree, ahead, next}
-use Rattle.journal.specs.Journal.{holds, count, entry, entries-from}
-use Rattle.journal.proofs.Log.{Allowed, Sound, count-few, count-same, holds-same, high-low, entry-high, replayed-holds}
+use Rattle.layout.specs.Reading.{sane}
+use Rattle.journal.specs.Journal.{holds, count, entry, entries-from, pages-of}
+use Rattle.journal.proofs.Log.{Allowed, Sound, sound-sane, count-few, count-same, holds-same, high-low, entry-high, replayed-holds}
 use Rattle.promise.specs.Register.{register}
-use Rattle.promise.specs.LateReading.{Log-same, Reads-late}
+use Rattle.promise.specs.LateReading.{Log-same, Reads-late, Headers-sane}
 use Rattle.promise.proofs.Right.{any-moment}
 
 -- each disk that lives has one of two
@@ -128,3 +129,18 @@ reads-late l w x xs size lived t high =
   where
     entry-low : (s t : List Page) (k : ℕ) → nth t 1 ≡ nth s 1 → nth t (2 + k) ≡ nth s (2 + k) → entry t k ≡ entry s k
     entry-low s t k e f = rw (e, f)
+
+-- what holds of each state that a shape allows holds of each living disk
+shape-each : (G : List Page → Put → Type 0) (P Q : List Page → Type 0) (R : List Page → Type 0) → ((s : List Page) → P s → R s) →
+    (d : List (Disk (List Page))) (todo : List (On Put)) → Shape put G P Q d todo → All-live R d
+shape-each G P Q R f d todo (agree s xs al has e safe) =
+    let r = f s (safe-here put G P Q s xs safe) in
+    either-live s s R r r 0 d (each-map (Has s) _ (λ i y h l. inl (h l)) 0 d has)
+shape-each G P Q R f d todo (ahead s x xs j is al asc h e p g safe) =
+    either-live s (put x s) R (f s p) (f (put x s) (safe-here put G P Q (put x s) xs safe)) 0 d
+    (each-map (Ahead j is s (put x s)) _ (λ i y c l. elim (cases-lt i j) [ inl z ↦ inr (c l .0 z) | inr z ↦ inl (c l .1 z .0) ]) 0 d h)
+
+pub headers-sane : Headers-sane
+unfolding Headers-sane
+headers-sane l w size lived =
+    shape-each _ _ _ (λ s. sane (nth s 0) (nth s 1) (pages-of s) ≡ true) (λ s p. sound-sane (l .pages) s (p .sound)) (w .disks) (w .todo) (any-moment l size w lived)

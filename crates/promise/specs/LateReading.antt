@@ -8,7 +8,8 @@ use Rattle.model.specs.Book.{Page, nth, Limits}
 use Rattle.model.specs.Disks.{On, World, Lived}
 use Rattle.model.specs.Plain.{Put, plain}
 use Rattle.model.specs.Statements.{Good-size, All-live}
-use Rattle.journal.specs.Journal.{holds, count, entry}
+use Rattle.layout.specs.Reading.{sane}
+use Rattle.journal.specs.Journal.{holds, count, entry, pages-of}
 use Rattle.promise.specs.Register.{register}
 
 -- at any moment, where the log holds on a living disk, list and log are the same on every other
@@ -22,3 +23,9 @@ unfoldable pub Reads-late : Type 0
 Reads-late =
     (l : Limits) (w : World (List Page) Put) (x : On Put) (xs : List (On Put)) → Good-size l → Lived plain register l w → w .todo ≡ x ∷ xs → first-page ≤ x .item .block →
     (i : ℕ) × All-live (λ s. (holds s ≡ true) × (i < count s) × (x .item ≡ entry s i)) (w .disks)
+
+-- at any moment each living disk has a header that a register of so many pages may have written; so a start
+-- that refuses any other header refuses no disk that a register left
+unfoldable pub Headers-sane : Type 0
+Headers-sane =
+    (l : Limits) (w : World (List Page) Put) → Good-size l → Lived plain register l w → All-live (λ s. sane (nth s 0) (nth s 1) (pages-of s) ≡ true) (w .disks)

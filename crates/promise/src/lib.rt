@@ -8,12 +8,12 @@ ghost use Rattle.model.specs.Statements.{Pages-stand, Replicas-same, One-differ
 ghost use Rattle.model.specs.Later.{Stands-on};
 ghost use Rattle.model.specs.Two as two;
 ghost use Rattle.promise.specs.Register.{register, for-two};
-ghost use Rattle.promise.specs.LateReading.{Log-same, Reads-late};
+ghost use Rattle.promise.specs.LateReading.{Log-same, Reads-late, Headers-sane};
 ghost use Rattle.promise.specs.Bounds.{Stays-within, Makes-each-once, Call-counts, Recovery-counts, Stays-bounded};
 
 // The main promise: whatever happens, whenever power goes and whichever disk dies when, there is a book
-// that explains every answer. For any number of disks in a list, and for two with names; for the first
-// stage, which refuses size, and for all calls.
+// that explains every answer. For any number of disks in a list, and for two with names; for a
+// register without size, and for one with all calls.
 pub fn main_promise() -> u8
     ensures list_thin { λ _. ⌜ Right plain thin register ⌝ }
     ensures list_all { λ _. ⌜ Right plain all register ⌝ }
@@ -35,12 +35,13 @@ pub fn at_rest() -> u8
 
 // At any moment: two living disks differ in one block at most; where the log holds, list and log are the
 // same on all; a page that is written next may be read from the log of any of them; and all that is still
-// to be written is good pages within the disks.
+// to be written is good pages within the disks; and every header is one that a register may have written.
 pub fn any_moment() -> u8
     ensures differ { λ _. ⌜ One-differs plain register ⌝ }
     ensures log { λ _. ⌜ Log-same ⌝ }
     ensures late { λ _. ⌜ Reads-late ⌝ }
     ensures within { λ _. ⌜ Stays-within ⌝ }
+    ensures headers { λ _. ⌜ Headers-sane ⌝ }
 {
     0
 }

@@ -28,7 +28,10 @@ pub fn call_bytes(
 // Why a call was refused, in words.
 fn refused(rt: &LibcRuntime, refusal: Refusal) -> Stop {
     match refusal {
-        Refusal::NotACall { place } => refuse(rt, format_args!("this is no call from byte {place} on")),
+        Refusal::NotACall { place } => refuse(
+            rt,
+            format_args!("this is no call from byte {place} on"),
+        ),
         Refusal::Unfit => refuse(rt, "a page has 1024 bytes"),
         Refusal::NoSuchPage => refuse(rt, "there is no such page"),
         Refusal::LogFull => refuse(rt, "256 writes wait already"),

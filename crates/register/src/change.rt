@@ -43,10 +43,16 @@ fn read_file(rt: &LibcRuntime, change: &Change, pad: bool) -> Result<NewPage, St
         Err(error) => return Err(refuse(rt, format_args!("{name} can't be read: {error}"))),
     };
     if n > 1024 {
-        return Err(refuse(rt, format_args!("{name} is longer than a page, which has 1024 bytes")));
+        return Err(refuse(
+            rt,
+            format_args!("{name} is longer than a page, which has 1024 bytes"),
+        ));
     }
     if n < 1024 && !pad {
-        return Err(refuse(rt, format_args!("{name} has {n} bytes and a page has 1024; --pad fills it with zeros")));
+        return Err(refuse(
+            rt,
+            format_args!("{name} has {n} bytes and a page has 1024; --pad fills it with zeros"),
+        ));
     }
     let mut bytes = [0; 1024];
     bytes.copy_from_slice(&front[0..1024]);
@@ -57,7 +63,11 @@ fn read_file(rt: &LibcRuntime, change: &Change, pad: bool) -> Result<NewPage, St
 }
 
 // Reads all the files, before anything is written.
-pub fn read_files(rt: &LibcRuntime, changes: &Vec<Change>, pad: bool) -> Result<Vec<NewPage>, Stop> {
+pub fn read_files(
+    rt: &LibcRuntime,
+    changes: &Vec<Change>,
+    pad: bool,
+) -> Result<Vec<NewPage>, Stop> {
     let mut pages = Vec::new(rt.alloc());
     for change in changes.iter() {
         pages.push(read_file(rt, change, pad)?)?;
@@ -70,16 +80,31 @@ pub fn refuse_outside(rt: &LibcRuntime, changes: &Vec<Change>, pages: u32) -> Re
     for change in changes.iter() {
         let page = change.page;
         if page >= pages {
-            return Err(refuse(rt, format_args!("there is no page {page}; the register has {pages}, from 0 on")));
+            return Err(refuse(
+                rt,
+                format_args!("there is no page {page}; the register has {pages}, from 0 on"),
+            ));
         }
     }
     Ok(())
 }
 
 // Writes the pages and closes.
-pub fn change_pages(rt: &LibcRuntime, register: &mut Register, pages: &Vec<NewPage>) -> Result<(), Stop> {
+pub fn change_pages(
+    rt: &LibcRuntime,
+    register: &mut Register,
+    pages: &Vec<NewPage>,
+) -> Result<(), Stop> {
     for new in pages.iter() {
         write_page(rt, register, new.page, &new.bytes)?;
     }
-    close(rt, register)
+    close(rt, register)?;
+    let count = pages.len();
+    match println!(rt, "done: {count} pages changed") {
+        Ok(()) => Ok(()),
+        Err(error) => Err(refuse(
+            rt,
+            format_args!("the pages are changed, but that can't be told: {error}"),
+        )),
+    }
 }

@@ -27,9 +27,15 @@ pub fn tell(rt: &LibcRuntime, register: &mut Register) -> Result<(), Stop> {
     let second = life(&register.disks, Side::Second);
     let pages = register.pages;
     let mended = register.mended;
-    let told = println!(rt, "first disk: {first}\nsecond disk: {second}\ndisks: {same}\npages: {pages}\nrecovery: {mended}");
+    let told = println!(
+        rt,
+        "first disk: {first}\nsecond disk: {second}\ndisks: {same}\npages: {pages}\nrecovery: {mended}"
+    );
     match told {
         Ok(()) => Ok(()),
-        Err(error) => Err(refuse(rt, format_args!("standard output can't be written: {error}"))),
+        Err(error) => Err(refuse(
+            rt,
+            format_args!("standard output can't be written: {error}"),
+        )),
     }
 }

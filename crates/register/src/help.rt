@@ -22,6 +22,9 @@ it is dead. PAGE is a number, from 0 on.
 pub fn show_help(rt: &LibcRuntime) -> Result<(), Stop> {
     match rt.stdout().write_all(USAGE.as_bytes()) {
         Ok(()) => Ok(()),
-        Err(error) => Err(refuse(rt, format_args!("standard output can't be written: {error}"))),
+        Err(error) => Err(refuse(
+            rt,
+            format_args!("standard output can't be written: {error}"),
+        )),
     }
 }

@@ -47,7 +47,11 @@ fn run(rt: &LibcRuntime) -> Result<(), Stop> {
         Command::Serve { disks } => serve::serve(rt, &mut begin(rt, &disks, trace)?),
         Command::Read { disks, page } => show_page(rt, &mut begin(rt, &disks, trace)?, page),
         Command::New { disks, pages } => make::make_disks(rt, &disks, pages, trace),
-        Command::Change { disks, changes, pad } => {
+        Command::Change {
+            disks,
+            changes,
+            pad,
+        } => {
             let pages = change::read_files(rt, &changes, pad)?;
             let files = open_files(rt, &disks)?;
             change::refuse_outside(rt, &changes, files.pages)?;

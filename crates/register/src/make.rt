@@ -25,14 +25,24 @@ use std::io::Error;
 fn refuse_marked(rt: &LibcRuntime, path: &str, mark: Mark, word: &str) -> Result<(), Stop> {
     match marks::find(rt, path, mark) {
         Found::No => Ok(()),
-        Found::Yes(_) | Found::Unknown(_) => Err(refuse(rt, format_args!("{path}.{word} is there, the mark of an earlier disk of this name; remove it, or choose another name"))),
+        Found::Yes(_) | Found::Unknown(_) => Err(refuse(
+            rt,
+            format_args!(
+                "{path}.{word} is there, the mark of an earlier disk of this name; remove it, or choose another name"
+            ),
+        )),
     }
 }
 
 // Why a file can't be made, in words.
 fn cannot_make(rt: &LibcRuntime, path: &str, error: i32) -> Stop {
     if error == libc::EEXIST {
-        return refuse(rt, format_args!("{path} is there already, and is not touched; if it is left from a making that was cut short, remove both disks; else choose another name"));
+        return refuse(
+            rt,
+            format_args!(
+                "{path} is there already, and is not touched; if it is left from a making that was cut short, remove both disks; else choose another name"
+            ),
+        );
     }
     let error = Error::from_raw_os_error(error);
     refuse(rt, format_args!("{path} can't be made: {error}"))
@@ -92,7 +102,13 @@ fn error_of(disks: &Mirror<NewDisk>) -> i32 {
 }
 
 // Writes every block, and makes all of it last: first the disks, then their names.
-fn make(rt: &LibcRuntime, disks: &mut Mirror<NewDisk>, work: &Work, paths: &Paths, trace: bool) -> Result<(), i32> {
+fn make(
+    rt: &LibcRuntime,
+    disks: &mut Mirror<NewDisk>,
+    work: &Work,
+    paths: &Paths,
+    trace: bool,
+) -> Result<(), i32> {
     if !fill(rt, disks, work, trace) || !disks.first.end() || !disks.second.end() {
         return Err(error_of(disks));
     }
@@ -101,7 +117,14 @@ fn make(rt: &LibcRuntime, disks: &mut Mirror<NewDisk>, work: &Work, paths: &Path
 }
 
 // Makes disks for so many pages, in files that are empty.
-fn make_files(rt: &LibcRuntime, files: (Descriptor, Descriptor), work: &Work, paths: &Paths, pages: u32, trace: bool) -> Result<(), Stop> {
+fn make_files(
+    rt: &LibcRuntime,
+    files: (Descriptor, Descriptor),
+    work: &Work,
+    paths: &Paths,
+    pages: u32,
+    trace: bool,
+) -> Result<(), Stop> {
     let blocks = Layout::blocks(pages);
     let (first, second) = files;
     let mut disks = Mirror {
@@ -114,7 +137,10 @@ fn make_files(rt: &LibcRuntime, files: (Descriptor, Descriptor), work: &Work, pa
     remove(rt, paths.first.as_str());
     remove(rt, paths.second.as_str());
     let error = Error::from_raw_os_error(error);
-    Err(refuse(rt, format_args!("the disks can't be made: {error}; what was begun is removed")))
+    Err(refuse(
+        rt,
+        format_args!("the disks can't be made: {error}; what was begun is removed"),
+    ))
 }
 
 fn create_second(rt: &LibcRuntime, paths: &Paths) -> Result<Descriptor, Stop> {
@@ -130,7 +156,10 @@ fn create_second(rt: &LibcRuntime, paths: &Paths) -> Result<Descriptor, Stop> {
 // Makes two new disks for so many pages.
 pub fn make_disks(rt: &LibcRuntime, paths: &Paths, pages: u32, trace: bool) -> Result<(), Stop> {
     let Some(work) = making(pages) else {
-        return Err(refuse(rt, format_args!("a register has 1 to 16777216 pages, and not {pages}")));
+        return Err(refuse(
+            rt,
+            format_args!("a register has 1 to 16777216 pages, and not {pages}"),
+        ));
     };
     let first = create(rt, paths.first.as_str())?;
     let second = create_second(rt, paths)?;

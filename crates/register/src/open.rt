@@ -42,7 +42,12 @@ fn open_file(rt: &LibcRuntime, path: &str) -> Result<Descriptor, Stop> {
         Ok(file) => Ok(file),
         Err(error) => {
             let error = Error::from_raw_os_error(error);
-            Err(refuse(rt, format_args!("{path} can't be opened: {error}; if this disk is dead, give - in its place")))
+            Err(refuse(
+                rt,
+                format_args!(
+                    "{path} can't be opened: {error}; if this disk is dead, give - in its place"
+                ),
+            ))
         }
     }
 }
@@ -50,7 +55,12 @@ fn open_file(rt: &LibcRuntime, path: &str) -> Result<Descriptor, Stop> {
 // How many blocks a file of so many bytes has.
 fn whole_blocks(rt: &LibcRuntime, path: &str, size: u64) -> Result<u64, Stop> {
     if size % 1024 != 0 {
-        return Err(refuse(rt, format_args!("{path} has {size} bytes, which are no whole blocks; if its making was cut short, remove both disks and make them anew; if this disk is dead, give - in its place")));
+        return Err(refuse(
+            rt,
+            format_args!(
+                "{path} has {size} bytes, which are no whole blocks; if its making was cut short, remove both disks and make them anew; if this disk is dead, give - in its place"
+            ),
+        ));
     }
     Ok(size / 1024)
 }
@@ -69,7 +79,10 @@ fn open_one(rt: &LibcRuntime, path: &str) -> Result<Opened, Stop> {
     }
     let blocks = whole_blocks(rt, path, known.size)?;
     let Some(name) = true_name(rt, &file) else {
-        return Err(refuse(rt, format_args!("{path}: the system doesn't tell its full name")));
+        return Err(refuse(
+            rt,
+            format_args!("{path}: the system doesn't tell its full name"),
+        ));
     };
     Ok(Opened {
         file,
@@ -93,12 +106,20 @@ fn fit_together(rt: &LibcRuntime, first: &Opened, second: &Opened) -> Result<(),
     let a = first.path.as_str();
     let b = second.path.as_str();
     if first.identity == second.identity {
-        return Err(refuse(rt, format_args!("{a} and {b} are one file; a register has two disks")));
+        return Err(refuse(
+            rt,
+            format_args!("{a} and {b} are one file; a register has two disks"),
+        ));
     }
     if first.blocks != second.blocks {
         let m = first.blocks;
         let n = second.blocks;
-        return Err(refuse(rt, format_args!("{a} has {m} blocks and {b} has {n}: they are not disks of one register; if one of them is dead, give - in its place")));
+        return Err(refuse(
+            rt,
+            format_args!(
+                "{a} has {m} blocks and {b} has {n}: they are not disks of one register; if one of them is dead, give - in its place"
+            ),
+        ));
     }
     Ok(())
 }
@@ -110,7 +131,12 @@ fn count_pages(rt: &LibcRuntime, disk: &Opened) -> Result<u32, Stop> {
         None => {
             let path = disk.path.as_str();
             let blocks = disk.blocks;
-            Err(refuse(rt, format_args!("{path} has {blocks} blocks; a register's disk has 259 to 16777474; if this disk is dead, give - in its place")))
+            Err(refuse(
+                rt,
+                format_args!(
+                    "{path} has {blocks} blocks; a register's disk has 259 to 16777474; if this disk is dead, give - in its place"
+                ),
+            ))
         }
     }
 }
@@ -119,8 +145,14 @@ fn count_pages(rt: &LibcRuntime, disk: &Opened) -> Result<u32, Stop> {
 fn alone_with(rt: &LibcRuntime, files: &[Identity]) -> Result<(), Stop> {
     match another_writer(rt, files) {
         Ok(None) => Ok(()),
-        Ok(Some(process)) => Err(refuse(rt, format_args!("process {process} has one of the disks open; one at a time"))),
-        Err(error) => Err(refuse(rt, format_args!("whether another process has the disks open can't be told: {error}"))),
+        Ok(Some(process)) => Err(refuse(
+            rt,
+            format_args!("process {process} has one of the disks open; one at a time"),
+        )),
+        Err(error) => Err(refuse(
+            rt,
+            format_args!("whether another process has the disks open can't be told: {error}"),
+        )),
     }
 }
 

@@ -22,11 +22,25 @@ pub struct Change {
 #[derive(Drop)]
 pub enum Command {
     Help,
-    New { disks: Paths, pages: u32 },
-    Serve { disks: Paths },
-    Read { disks: Paths, page: u32 },
-    Change { disks: Paths, changes: Vec<Change>, pad: bool },
-    Check { disks: Paths },
+    New {
+        disks: Paths,
+        pages: u32,
+    },
+    Serve {
+        disks: Paths,
+    },
+    Read {
+        disks: Paths,
+        page: u32,
+    },
+    Change {
+        disks: Paths,
+        changes: Vec<Change>,
+        pad: bool,
+    },
+    Check {
+        disks: Paths,
+    },
 }
 
 #[derive(Drop)]
@@ -60,7 +74,10 @@ fn is_shown(word: &str) -> bool {
 // Sorts a word into the options or the other words.
 fn sort(rt: &LibcRuntime, words: &mut Words, word: String) -> Result<(), Stop> {
     if !is_shown(word.as_str()) {
-        return Err(refuse(rt, "an argument has control characters, which no name here may have"));
+        return Err(refuse(
+            rt,
+            "an argument has control characters, which no name here may have",
+        ));
     }
     match word.as_str() {
         "--trace" => words.trace = true,
@@ -115,7 +132,10 @@ impl Words {
     // Refuses words that stand after the last that a command takes.
     fn ends(&self, rt: &LibcRuntime, place: usize) -> Result<(), Stop> {
         match self.words.get(place) {
-            Some(word) => Err(refuse(rt, format_args!("{word} is one word too many; see register --help"))),
+            Some(word) => Err(refuse(
+                rt,
+                format_args!("{word} is one word too many; see register --help"),
+            )),
             None => Ok(()),
         }
     }
@@ -140,7 +160,10 @@ fn page_number(rt: &LibcRuntime, word: &str) -> Result<u32, Stop> {
 // Reads one PAGE=FILE.
 fn read_change(rt: &LibcRuntime, word: &str) -> Result<Change, Stop> {
     let Some((page, file)) = word.split_once('=') else {
-        return Err(refuse(rt, format_args!("{word} is no change, which is a page's number, = and a file's name")));
+        return Err(refuse(
+            rt,
+            format_args!("{word} is no change, which is a page's number, = and a file's name"),
+        ));
     };
     Ok(Change {
         page: page_number(rt, page)?,
@@ -182,7 +205,10 @@ fn new_command(rt: &LibcRuntime, words: &Words) -> Result<Command, Stop> {
     let word = words.get(rt, 3, "how many pages")?;
     words.ends(rt, 4)?;
     let Some(pages) = number(word) else {
-        return Err(refuse(rt, format_args!("{word} is no number of pages; a register has 1 to 16777216")));
+        return Err(refuse(
+            rt,
+            format_args!("{word} is no number of pages; a register has 1 to 16777216"),
+        ));
     };
     Ok(Command::New { disks, pages })
 }
@@ -219,11 +245,18 @@ fn read_command_word(rt: &LibcRuntime, words: &Words) -> Result<Command, Stop> {
     let word = words.get(rt, 0, "a command")?;
     match word {
         "new" => new_command(rt, words),
-        "serve" => Ok(Command::Serve { disks: disks_alone(rt, words)? }),
+        "serve" => Ok(Command::Serve {
+            disks: disks_alone(rt, words)?,
+        }),
         "read" => read_command(rt, words),
         "change" => change_command(rt, words),
-        "check" => Ok(Command::Check { disks: disks_alone(rt, words)? }),
-        _ => Err(refuse(rt, format_args!("{word} is no command; see register --help"))),
+        "check" => Ok(Command::Check {
+            disks: disks_alone(rt, words)?,
+        }),
+        _ => Err(refuse(
+            rt,
+            format_args!("{word} is no command; see register --help"),
+        )),
     }
 }
 

@@ -2,6 +2,8 @@
 use crate::calls::call_bytes;
 use crate::calls::waiting;
 use crate::start::Register;
+use crate::start::Writes;
+use crate::start::WritesDisplay;
 use crate::stop::Stop;
 use crate::stop::refuse;
 use engine::call::Reply;
@@ -24,7 +26,11 @@ fn answer_of<'a>(reply: Reply, page: &'a [u8; 1024]) -> Answer<'a> {
 }
 
 // Answers the next call. False: the input is at its end.
-fn serve_next<R: Read>(rt: &LibcRuntime, register: &mut Register, input: &mut R) -> Result<bool, Stop> {
+fn serve_next<R: Read>(
+    rt: &LibcRuntime,
+    register: &mut Register,
+    input: &mut R,
+) -> Result<bool, Stop> {
     let mut call = [0; KEPT];
     let mut page = [0; 1024];
     let n = match read_frame(input, &mut call) {
@@ -40,7 +46,11 @@ fn serve_next<R: Read>(rt: &LibcRuntime, register: &mut Register, input: &mut R)
     Ok(true)
 }
 
-fn serve_all<R: Read>(rt: &LibcRuntime, register: &mut Register, input: &mut R) -> Result<(), Stop> {
+fn serve_all<R: Read>(
+    rt: &LibcRuntime,
+    register: &mut Register,
+    input: &mut R,
+) -> Result<(), Stop> {
     for _ in 0..u64::MAX {
         if !serve_next(rt, register, input)? {
             return Ok(());
@@ -55,7 +65,8 @@ pub fn serve(rt: &LibcRuntime, register: &mut Register) -> Result<(), Stop> {
     let served = serve_all(rt, register, &mut input);
     let left = waiting(register);
     if left > 0 {
-        let _ = eprintln!(rt, "register: {left} writes were not closed and are dropped");
+        let writes = Writes(left);
+        let _ = eprintln!(rt, "register: {writes}");
     }
     served
 }

@@ -5,8 +5,6 @@ use crate::stop::Stop;
 use crate::stop::StopFromAllocError;
 use crate::stop::refuse;
 use device::mirror::Side;
-use engine::perform::finish;
-use engine::recover::begin_recovery;
 use engine::work::Work;
 use files::disk::FileDisk;
 use guard::inspect::Front;
@@ -55,13 +53,22 @@ fn mark_text(rt: &LibcRuntime, disk: &Opened, mark: Mark) -> Result<Option<Strin
         Found::Unknown(error) => {
             let path = disk.path.as_str();
             let error = Error::from_raw_os_error(error);
-            Err(refuse(rt, format_args!("whether a mark of a death stands beside {path} can't be told: {error}")))
+            Err(refuse(
+                rt,
+                format_args!(
+                    "whether a mark of a death stands beside {path} can't be told: {error}"
+                ),
+            ))
         }
     }
 }
 
 // Since when a disk is dead and why, if it is: a mark says so, or the command line.
-fn death_of(rt: &LibcRuntime, disk: &Option<Opened>, other: &Option<Opened>) -> Result<Option<String>, Stop> {
+fn death_of(
+    rt: &LibcRuntime,
+    disk: &Option<Opened>,
+    other: &Option<Opened>,
+) -> Result<Option<String>, Stop> {
     if let Some(other) = other {
         if let Some(text) = mark_text(rt, other, Mark::Alone)? {
             return Ok(Some(text));
@@ -147,7 +154,13 @@ fn refuse_strange(rt: &LibcRuntime, side: Side, front: &Front, pages: u32) -> Re
         return Ok(());
     }
     let name = side_name(side);
-    Err(refuse(rt, format_args!("the {name} disk has a header that no register of {pages} pages writes; nothing was changed; give - in its place to leave it out")))
+    let fault = front.fault();
+    Err(refuse(
+        rt,
+        format_args!(
+            "the {name} disk has a header that no register of {pages} pages writes: {fault}; nothing was changed; if this disk is to be left out, give - in its place"
+        ),
+    ))
 }
 
 // Refuses two disks that no register can have left so.
@@ -159,7 +172,12 @@ fn refuse_unlike(rt: &LibcRuntime, disks: &mut FilePair, pages: u32) -> Result<(
         let count = found.count;
         let first = found.first;
         let last = found.last;
-        return Err(refuse(rt, format_args!("the disks differ in {count} blocks, the first {first} and the last {last}: they are of two registers, or one is an old copy; nothing was changed; give - in place of the one to leave out")));
+        return Err(refuse(
+            rt,
+            format_args!(
+                "the disks differ in {count} blocks, the first {first} and the last {last}: they are of two registers, or one is an old copy; nothing was changed; give - in place of the one to leave out"
+            ),
+        ));
     }
     let Some((a, b)) = read_fronts(disks) else {
         return Ok(());
@@ -226,6 +244,20 @@ impl Mended {
     }
 }
 
+// So many writes, in words.
+#[derive(Clone, Copy)]
+pub struct Writes(pub u32);
+
+pub impl fmt::Display for Writes as WritesDisplay {
+    fn fmt<W: fmt::Write>(&self, f: &mut fmt::Formatter<W>) -> fmt::Result {
+        let n = self.0;
+        if n == 1 {
+            return f.write_str("1 write was not closed and is dropped");
+        }
+        write!(f, "{n} writes were not closed and are dropped")
+    }
+}
+
 pub impl fmt::Display for Mended as MendedDisplay {
     fn fmt<W: fmt::Write>(&self, f: &mut fmt::Formatter<W>) -> fmt::Result {
         if self.is_nothing() {
@@ -233,14 +265,17 @@ pub impl fmt::Display for Mended as MendedDisplay {
         }
         f.write_str("mended")?;
         if let Some(block) = self.copied {
-            write!(f, ": block {block}, as it is on the first disk")?;
+            write!(
+                f,
+                "; block {block} is on the second disk now as on the first"
+            )?;
         }
         if let Some(count) = self.closed {
-            write!(f, ": {count} pages of a close that was cut")?;
+            write!(f, "; a close that was cut is done, pages: {count}")?;
         }
         if self.dropped > 0 {
-            let dropped = self.dropped;
-            write!(f, ": {dropped} writes that were not closed are dropped")?;
+            let writes = Writes(self.dropped);
+            write!(f, "; {writes}")?;
         }
         Ok(())
     }
@@ -253,21 +288,43 @@ pub fn life(disks: &FilePair, side: Side) -> &'static str {
 // Recovers the disks, and says what was mended.
 fn recover(rt: &LibcRuntime, disks: FilePair, pages: u32, log: Log) -> Result<Register, Stop> {
     let mut disks = disks;
-    let Some(work) = begin_recovery(&mut disks, pages) else {
+    let Some(work) = engine::recover::recover(&mut disks, pages) else {
         return Err(both_dead(rt));
     };
-    if !finish(&mut disks, &work) {
-        return Err(both_dead(rt));
-    }
     let mended = mended_by(&work, log);
     let first = life(&disks, Side::First);
     let second = life(&disks, Side::Second);
-    let _ = eprintln!(rt, "register: first disk {first}, second disk {second}, {pages} pages, {mended}");
+    let _ = eprintln!(
+        rt,
+        "register: first disk {first}, second disk {second}, {pages} pages, {mended}"
+    );
     Ok(Register {
         disks,
         pages,
         mended,
     })
+}
+
+// Refuses disks that are both dead.
+fn refuse_both_dead(
+    rt: &LibcRuntime,
+    first: &Option<String>,
+    second: &Option<String>,
+) -> Result<(), Stop> {
+    let Some(first) = first else {
+        return Ok(());
+    };
+    let Some(second) = second else {
+        return Ok(());
+    };
+    let first = first.as_str();
+    let second = second.as_str();
+    Err(refuse(
+        rt,
+        format_args!(
+            "the first disk is dead {first}; the second disk is dead {second}; there is no disk to go on with, and nothing was changed"
+        ),
+    ))
 }
 
 // Starts the register on files that were opened.
@@ -279,12 +336,10 @@ pub fn start(rt: &LibcRuntime, files: Files, trace: bool) -> Result<Register, St
         second_death,
     } = join(rt, files, trace)?;
     let mut disks = disks;
+    refuse_both_dead(rt, &first_death, &second_death)?;
+    let log = look_through(rt, &mut disks, pages)?;
     say_death(rt, Side::First, &first_death);
     say_death(rt, Side::Second, &second_death);
-    if first_death.is_some() && second_death.is_some() {
-        return Err(refuse(rt, "there is no disk to go on with; nothing was changed"));
-    }
-    let log = look_through(rt, &mut disks, pages)?;
     note_known(&mut disks, Side::First, &first_death)?;
     note_known(&mut disks, Side::Second, &second_death)?;
     recover(rt, disks, pages, log)

@@ -74,7 +74,7 @@ pub impl From<AllocError> for Unmade as UnmadeByMemory {
     }
 }
 
-// A disk of the right size, before a register is made on it.
+// A disk before it is made new: a register writes every block of it.
 fn raw_disk(heap: Global, pages: u32) -> Result<MemDisk, AllocError>
     requires { ⌜ pages ≤ 16 ⌝ }
     ensures { λ r. ⌜ made r (λ d. length (disk-of d .has) ≡ pages + first-page) ⌝ }
