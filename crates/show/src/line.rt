@@ -93,7 +93,7 @@ pub impl fmt::Display for KindShown as KindShownDisplay {
 
 // So many writes.
 #[derive(Clone, Copy)]
-pub struct Writes(u64);
+pub struct Writes(pub u64);
 
 pub impl fmt::Display for Writes as WritesDisplay {
     fn fmt<W: fmt::Write>(&self, f: &mut fmt::Formatter<W>) -> fmt::Result {
