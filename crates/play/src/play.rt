@@ -1,4 +1,10 @@
 // The play: commands done one after the other.
+ghost use mathlib.Core.Path.{_≡_};
+ghost use mathlib.Core.Bool.{true};
+ghost use mathlib.Core.List.{[]};
+ghost use Rattle.std.specs.Of.Vec.{vec-items};
+ghost use Rattle.engine.specs.Living.{Explained};
+ghost use Rattle.world.specs.Means.{past-of};
 use crate::mark::Answer;
 use crate::mark::AnswerPartialEq;
 use crate::mark::Mark;
@@ -90,8 +96,12 @@ impl Play {
         self.marks.as_slice()
     }
 
-    pub fn world(&self) -> &World {
-        &self.world
+    // Whether a book explains all that happened. It does, whatever was played, unless bytes were put on the
+    // disks by hand.
+    pub fn is_explained(&self) -> bool
+        ensures { λ r. ⌜ (r ≡ true → ∥ Explained (now (self .entry) .world .pages) (past-of (vec-items (now (self .entry) .world .past)) []) ∥₁) ⌝ }
+    {
+        self.world.is_explained()
     }
 
     fn mark(&mut self, mark: Mark) -> Result<(), Wrong> {

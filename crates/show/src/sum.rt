@@ -5,13 +5,11 @@ use std::fmt;
 
 #[derive(Clone, Copy)]
 pub struct Sum<'a> {
-    pub path: &'a str,
     pub outcome: &'a Outcome,
 }
 
 pub impl fmt::Display for Sum<'_> as SumDisplay {
     fn fmt<W: fmt::Write>(&self, f: &mut fmt::Formatter<W>) -> fmt::Result {
-        let path = self.path;
         let counts = self.outcome.counts;
         let worlds = counts.worlds;
         let rests = counts.rests;
@@ -19,7 +17,6 @@ pub impl fmt::Display for Sum<'_> as SumDisplay {
         let deaths = counts.deaths;
         let plays = counts.plays;
         let met = counts.met;
-        writeln!(f, "# {path}, at every moment")?;
         writeln!(f, "{worlds:>9}  worlds, {rests} of them at rest")?;
         writeln!(
             f,
