@@ -183,7 +183,7 @@ fn cut_close<P: Pair>(disks: &mut P, n: u64) -> Result<(), Fail> {
         return Err(Fail::new("no close"));
     };
     perform_some(disks, &turn.work, n);
-    check(recover(disks, PAGES))
+    check(recover(disks, PAGES).is_some())
 }
 
 #[test]
