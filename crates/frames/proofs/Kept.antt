@@ -40,6 +40,7 @@ unfit-write l b a p h = go (l .calls-can 1) refl
   where
     e : eqb (length p) 1024 ≡ false
     e = grind (arith, tells)
+
     go : (t : Bool) → l .calls-can 1 ≡ t → Unfit l b (book.write a p)
     go true q = (simp (q, e), simp (q, e))
     go false q = (simp (q, e), simp (q, e))
@@ -62,6 +63,7 @@ longer l b (x ∷ r) h = go x
   where
     e : length (take 1029 r) ≡ 1029
     e = length-take-le 1029 r (omega arith)
+
     go : (x : ℕ) → (answer l b (call-of (x ∷ take 1029 r)) ≡ answer l b (call-of (x ∷ r))) × (after l b (call-of (x ∷ take 1029 r)) ≡ after l b (call-of (x ∷ r)))
     go zero = same l b _ _ (book.garbled 5) (long-read (take 1029 r) (omega (arith, e))) (long-read r (omega arith))
     go (suc zero) = alike l b _ _ (unfit l b (take 1029 r) (omega (arith, e)) (λ q. absurd (omega (arith, e)))) (unfit l b r (omega arith) (λ q. absurd (omega arith)))
