@@ -11,7 +11,7 @@ build:
 	@rt check register simulator
 
 test:
-	@tests/gate.sh
+	@tests/gate.sh rt ci
 
 system-test: build
 	@tests/system/run.sh

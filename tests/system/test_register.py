@@ -421,13 +421,16 @@ def test_making(register):
     assert os.listdir(register.folder) == []
 
 
-def test_making_is_quick(register):
+def test_making_of_a_whole_register(register):
+    """Disks are made in runs of 1,024 blocks; each is synced at the end, and again when it has its length."""
     register.clean()
-    began = time.monotonic()
-    assert register.run("new", "first", "second", 60000).status == 0
-    assert register.run("check", "first", "second").status == 0
-    assert time.monotonic() - began < 10
+    assert register.run("new", "first", "second", 60000, log=True).status == 0
+    calls = [tuple(line[:2]) for line in register.log_lines()]
+    for name in ("first", "second"):
+        assert calls.count(("write", name)) == 59, calls
+        assert calls.count(("sync", name)) == 2, calls
     assert register.disks() == [bytes(BLOCK * (FIRST_PAGE + 60000))] * 2
+    assert register.run("check", "first", "second").status == 0
 
 
 def test_making_that_is_cut(register):

@@ -93,7 +93,7 @@ call-lived n size d e hs c b lived src al r =
     let ran-out = run-lives l [] true (u b ∷ []) hs [] r (view-alive e al) (subst T (sym (append-nil todo)) begun) in
     answered (u b) ran-out refl refl refl
 
-explained : (n : ℕ) → Good-size (limits n) → (d : Both) (hs : List Happening) → Reached n d hs → Explained n hs
+pub explained : (n : ℕ) → Good-size (limits n) → (d : Both) (hs : List Happening) → Reached n d hs → Explained n hs
 unfolding Right
 explained n size d hs lived = is-right all (limits n) (resting (view d) hs) (size .0, size .1, λ k. refl) lived
 
@@ -147,11 +147,11 @@ module _ (l : Limits) where
   lived-long (power-again {w} d lived fall up) = subst Longs (sym (fallen-same (w .disks) d fall)) (lived-long lived)
   lived-long (mended lived up todo) = lived-long lived
 
-fallen-none : (d : Both) → Fallen (plain .falls) (view d) (view d)
+pub fallen-none : (d : Both) → Fallen (plain .falls) (view d) (view d)
 fallen-none d = (refl, refl, (refl, refl, tt))
 
 -- deaths lead from a world that can be reached to another
-died-lives : (l : Limits) (w : World (List Page) Put) (d e : Both) → Lived plain register l w → w .disks ≡ view d → Ran [] (view d) (view e) → alive (view e) ≡ true →
+pub died-lives : (l : Limits) (w : World (List Page) Put) (d e : Both) → Lived plain register l w → w .disks ≡ view d → Ran [] (view d) (view e) → alive (view e) ≡ true →
     Lived plain register l (busy (w .memory) (w .up) (w .under) (w .past) (view e) (w .todo))
 died-lives l w d e lived is r al =
     let P : View → Type 0 = λ v. Lived plain register l (busy (w .memory) (w .up) (w .under) (w .past) v (w .todo)) in
@@ -188,7 +188,7 @@ none-log e b h =
     ((λ z i k. absurd (both-ways (e .first .lives) (p .0) z)), ((λ z i k. absurd (both-ways (e .second .lives) (q .0) z)), tt))
 
 module _ (n : ℕ) (size : Good-size (limits n)) (w : World (List Page) Put) (d : Both) (lived : Lived plain register (limits n) w) (is : w .disks ≡ view d) where
-  log-agrees : Log-agrees d
+  pub log-agrees : Log-agrees d
   unfolding late.Log-same
   log-agrees e r h = go (alive (view e)) refl
     where
@@ -196,7 +196,7 @@ module _ (n : ℕ) (size : Good-size (limits n)) (w : World (List Page) Put) (d 
       go true al = both-log e (e .first .lives) refl (λ z. log-same (limits n) _ size (died-lives (limits n) w d e lived is r z)) al h
       go false al = none-log e (source-of e) al
 
-  of-pages : Of-pages n d
+  pub of-pages : Of-pages n d
   of-pages =
       let P : View → Type 0 = λ v. Longs (limits n) v in
       let z = subst P is (lived-long (limits n) lived) in

@@ -77,7 +77,11 @@ fn scripted_power(run: &mut Run, item: Trail) -> Result<Step, AllocError> {
 // A moment of the script that comes now. True: the world changed.
 fn strike(run: &mut Run, moment: Moment, done: u64) -> Result<bool, AllocError> {
     match moment {
-        Moment::Death { side, after } if after == done => scripted_death(run, side, Trail::Struck(moment)),
+        Moment::Death { side, after } if after == done => scripted_death(
+            run,
+            side,
+            Trail::Struck(moment),
+        ),
         Moment::Power { after } if after == done => {
             scripted_power(run, Trail::Struck(moment))?;
             Ok(true)
@@ -185,7 +189,11 @@ fn finish(run: &mut Run, script: &Script) -> Step {
         }
         Phase::Recovery { extra } => {
             let up = run.world.recovered();
-            let next = if extra { run.at } else { run.at.saturating_add(1) };
+            let next = if extra {
+                run.at
+            } else {
+                run.at.saturating_add(1)
+            };
             if extra {
                 run.powers = 0;
             }

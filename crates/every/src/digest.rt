@@ -16,7 +16,10 @@ impl Digest {
 
     pub fn word(self, word: u64) -> Digest {
         let first = (self.0 ^ word).wrapping_mul(1099511628211).rotate_left(23);
-        let second = self.1.wrapping_add(word).wrapping_mul(6364136223846793005).rotate_left(31);
+        let second = self.1
+            .wrapping_add(word)
+            .wrapping_mul(6364136223846793005)
+            .rotate_left(31);
         Digest(first, second)
     }
 
@@ -47,7 +50,12 @@ impl Digest {
 }
 
 // The digests of the books that explain what happened, in ascending order and each once.
-pub fn books(heap: Global, pages: u32, past: &[Event], choices: u64) -> Result<Vec<Digest>, AllocError> {
+pub fn books(
+    heap: Global,
+    pages: u32,
+    past: &[Event],
+    choices: u64,
+) -> Result<Vec<Digest>, AllocError> {
     let mut digests = Vec::new(heap);
     for choice in 0..choices {
         if let Some(book) = book_by(pages, past, choice) {

@@ -37,7 +37,10 @@ fn both_live(world: &World) -> bool {
 fn differing(first: &[u8], second: &[u8]) -> u32 {
     let mut n: u32 = 0;
     for i in 0..first.len().min(second.len()) / 1024 {
-        if !bytes::same(bytes::block_at(first, 1024 * i), bytes::block_at(second, 1024 * i)) {
+        if !bytes::same(
+            bytes::block_at(first, 1024 * i),
+            bytes::block_at(second, 1024 * i),
+        ) {
             n = n.saturating_add(1);
         }
     }
@@ -71,7 +74,10 @@ fn stands(book: &Book, disk: &[u8]) -> bool {
         if block >= blocks {
             return false;
         }
-        if !bytes::same(bytes::block_at(disk, 1024 * block as usize), &book.page(number)) {
+        if !bytes::same(
+            bytes::block_at(disk, 1024 * block as usize),
+            &book.page(number),
+        ) {
             return false;
         }
     }

@@ -116,7 +116,12 @@ impl Run {
         for side in [Side::First, Side::Second] {
             digest = self.digest_disk(digest, side);
         }
-        let books = books(heap, self.world.pages(), self.world.past(), ways(&self.world))?;
+        let books = books(
+            heap,
+            self.world.pages(),
+            self.world.past(),
+            ways(&self.world),
+        )?;
         for book in books {
             digest = digest.join(book);
         }
@@ -147,7 +152,11 @@ impl Run {
 
     // Notes what strikes now: behind what is under way, or on a line of its own.
     fn note(&mut self, moment: Moment, rest: Trail) -> Result<(), AllocError> {
-        let item = if self.is_at_rest() { rest } else { Trail::Struck(moment) };
+        let item = if self.is_at_rest() {
+            rest
+        } else {
+            Trail::Struck(moment)
+        };
         self.trail.push(item)?;
         Ok(())
     }
@@ -194,12 +203,18 @@ impl Run {
 
     // Whether something is about to be read: a call is next, or recovery has written nothing yet.
     pub fn may_die_reading(&self, script: &Script) -> bool {
-        let reads = self.next_call(script).is_some() || (self.is_in_recovery() && self.world.done() == 0);
+        let reads = self.next_call(script).is_some()
+            || (self.is_in_recovery() && self.world.done() == 0);
         reads && self.may_die()
     }
 
     // What is next begins, and a disk dies at one of its reads there. False: it has fewer reads.
-    pub fn die_reading(&mut self, script: &Script, side: Side, read: u64) -> Result<bool, AllocError> {
+    pub fn die_reading(
+        &mut self,
+        script: &Script,
+        side: Side,
+        read: u64,
+    ) -> Result<bool, AllocError> {
         self.world.set_left(side, read.saturating_sub(1));
         let begun = match self.next_call(script) {
             Some(asked) => self.begin(&asked)?,
@@ -208,7 +223,8 @@ impl Run {
         if !begun || self.world.is_alive(side) {
             return Ok(false);
         }
-        self.trail.push(Trail::Struck(Moment::Reading { side, read }))?;
+        self.trail
+            .push(Trail::Struck(Moment::Reading { side, read }))?;
         self.deaths = self.deaths.saturating_sub(1);
         self.seen = false;
         Ok(true)

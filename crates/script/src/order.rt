@@ -93,7 +93,8 @@ impl Wrong {
             Wrong::Set => "setting bytes is `set BLOCK BYTES`",
             Wrong::Bytes => "bytes are pairs of hexadecimal digits, or a pair, `*` and how often",
             Wrong::TooLong => "there are more than 1,030 bytes",
-            Wrong::Moment => "a moment is `power`, `first` or `second` and a number of writes, or `first-read` or `second-read` and the number of a read",
+            Wrong::Moment =>
+                "a moment is `power`, `first` or `second` and a number of writes, or `first-read` or `second-read` and the number of a read",
             Wrong::NoMoments => "only a call and `recover` have moments",
             Wrong::PowerGone => "power is gone: only `recover`, `power` and `die` are possible",
             Wrong::PowerThere => "power is there, and there is nothing to recover",

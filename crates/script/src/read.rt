@@ -33,7 +33,10 @@ fn words_of<'a>(heap: Global, line: &'a str) -> Result<Vec<&'a str>, AllocError>
 }
 
 fn is_moment(word: &str) -> bool {
-    matches!(word, "power" | "first" | "second" | "first-read" | "second-read")
+    matches!(
+        word,
+        "power" | "first" | "second" | "first-read" | "second-read"
+    )
 }
 
 // Where the moments of a line begin: at the first word of theirs behind the line's own first word.

@@ -16,8 +16,6 @@ use play::play::Play;
 use play::play::play_script;
 use print::Line;
 use print::LineDisplay;
-use sum::Sum;
-use sum::SumDisplay;
 use script::order::FaultDisplay;
 use script::order::Script;
 use script::read;
@@ -26,6 +24,8 @@ use std::env;
 use std::fmt::Write;
 use std::fs;
 use std::io;
+use sum::Sum;
+use sum::SumDisplay;
 
 // That one line was printed: the program ends with status 1.
 #[derive(Debug, Drop)]
@@ -150,7 +150,10 @@ fn run(rt: &LibcRuntime) -> Result<(), Stopped> {
     let mut out = String::new(rt.alloc());
     let held = match words.as_slice() {
         [] => {
-            eprintln!(rt, "simulator: which scripts? simulator [--every] SCRIPT ..")?;
+            eprintln!(
+                rt,
+                "simulator: which scripts? simulator [--every] SCRIPT .."
+            )?;
             return Err(Stopped::Told);
         }
         [option, paths @ ..] if option.as_str() == "--every" => explore_all(rt, paths, &mut out)?,

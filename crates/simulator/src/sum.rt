@@ -21,8 +21,14 @@ pub impl fmt::Display for Sum<'_> as SumDisplay {
         let met = counts.met;
         writeln!(f, "# {path}, at every moment")?;
         writeln!(f, "{worlds:>9}  worlds, {rests} of them at rest")?;
-        writeln!(f, "{powers:>9}  times power went, and {deaths} times a disk died, that the script does not have")?;
-        writeln!(f, "{plays:>9}  plays came to the end of the script, and {met} to a rest that was met before")?;
+        writeln!(
+            f,
+            "{powers:>9}  times power went, and {deaths} times a disk died, that the script does not have"
+        )?;
+        writeln!(
+            f,
+            "{plays:>9}  plays came to the end of the script, and {met} to a rest that was met before"
+        )?;
         let Some(found) = &self.outcome.found else {
             return writeln!(f, "           nothing fails");
         };

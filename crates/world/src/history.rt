@@ -1,5 +1,8 @@
 // What happened, as anybody outside could know it: calls with their answers, calls that power cut, and power.
-ghost use Prim.Native.Nat.{_≤_};
+ghost use mathlib.Core.Path.{_≡_};
+ghost use Prim.Native.Nat.{_<_, _≤_};
+ghost use lib.ListN.{length, take};
+ghost use Rattle.std.specs.Options.{Cases as BySome};
 use engine::call::Reply;
 
 // A call, as its bytes: at most a write with one byte too many.
@@ -15,7 +18,9 @@ impl Asked {
     pub const MOST: usize = 1030;
 
     // None where there are more bytes than a world keeps.
-    pub fn new(call: &[u8]) -> Option<Asked> {
+    pub fn new(call: &[u8]) -> Option<Asked>
+        ensures { λ r. ⌜ BySome r (1030 < length (now (call .entry))) (λ a. take (a .len) (a .bytes) ≡ now (call .entry)) ⌝ }
+    {
         if call.len() > Self::MOST {
             return None;
         }
@@ -27,7 +32,9 @@ impl Asked {
         })
     }
 
-    pub fn as_slice(&self) -> &[u8] {
+    pub fn as_slice(&self) -> &[u8]
+        ensures { λ r. ⌜ now r ≡ take (now (self .entry) .len) (now (self .entry) .bytes) ⌝ }
+    {
         &self.bytes[0..self.len]
     }
 }

@@ -1,0 +1,3 @@
+mod Lists
+mod Steps
+mod Stated

@@ -1,0 +1,3 @@
+pub mod Means
+pub mod Reached
+pub mod Steps
