@@ -3,7 +3,8 @@
 // A call moves all the bytes that it was lent or counts as failed: a file that gives or takes fewer is no
 // disk. The number of an error is the system's, or 0 where fewer bytes were moved and no error was told.
 ghost use mathlib.Core.Path.{_≡_};
-ghost use lib.ListN.{length};
+ghost use lib.IntN.{pos};
+ghost use Rattle.std.specs.Results.{Cases as ByOk};
 
 // Closed when it is let go.
 pub struct Descriptor {
@@ -88,7 +89,9 @@ fn done(status: i32) -> Result<(), i32> {
 }
 
 // Whether a call moved as many bytes as it was to.
-fn moved(count: isize, wanted: usize) -> Result<(), i32> {
+fn moved(count: isize, wanted: usize) -> Result<(), i32>
+    ensures { λ r. ⌜ ByOk r (λ _. count ≡ pos wanted) (λ _. (count ≡ pos wanted → ⊥)) ⌝ }
+{
     if count < 0 {
         return Err(os::errno());
     }

@@ -4,9 +4,11 @@
 // sync the system may forget what it could not write, and report success at the next.
 ghost use mathlib.Core.Path.{_≡_};
 ghost use mathlib.Core.Bool.{true, false};
-ghost use Prim.Native.Nat.{_+_, _≤_, min};
-ghost use Rattle.std.specs.declared.option.Option.the-variants.{None};
-ghost use Rattle.model.specs.Numbers.{first-page, most-pages};
+ghost use Prim.Native.Nat.{_+_, _*_, _-_, _/_, _≤_, min};
+ghost use lib.ListN.{length};
+ghost use Rattle.std.specs.declared.option.Option.the-variants.{None, Some};
+ghost use Rattle.files.specs.Clearing.{Cleared-from, Empty-from};
+ghost use Rattle.model.specs.Numbers.{first-page, most-pages, page-size};
 use crate::descriptor::Descriptor;
 use crate::span::at_most;
 use crate::span::on_disk;
@@ -40,8 +42,10 @@ pub struct FileDisk {
     ghost bounded: { blocks ≤ most-pages + first-page },
 }
 
-// Makes the bytes from a place on empty.
-fn clear_from(out: &mut [u8], at: usize) {
+// Makes the bytes from a place on empty; those before it stay.
+fn clear_from(out: &mut [u8], at: usize)
+    ensures { λ _. ⌜ Cleared-from at (now (out .entry)) (now (out .exit)) ⌝ }
+{
     for i in at..out.len() {
         out[i] = 0;
     }
@@ -82,14 +86,18 @@ impl FileDisk {
 
     // Dies now, or stays dead.
     pub fn kill(&mut self)
-        ensures { λ _. ⌜ now (self .exit) .alive ≡ false ⌝ }
+        ensures alive { λ _. ⌜ now (self .exit) .alive ≡ false ⌝ }
+        ensures blocks { λ _. ⌜ now (self .exit) .blocks ≡ now (self .entry) .blocks ⌝ }
     {
         self.alive = false;
     }
 
     // Dies of a fault.
     fn dies(&mut self, deed: Deed, block: u64, error: i32) -> bool
-        ensures { λ r. ⌜ r ≡ false ⌝ ∗ ⌜ now (self .exit) .alive ≡ false ⌝ }
+        ensures answer { λ r. ⌜ r ≡ false ⌝ }
+        ensures alive { λ _. ⌜ now (self .exit) .alive ≡ false ⌝ }
+        ensures fault { λ _. ⌜ now (self .exit) .fault ≡ Some (record { deed = deed; block = block; error = error }) ⌝ }
+        ensures blocks { λ _. ⌜ now (self .exit) .blocks ≡ now (self .entry) .blocks ⌝ }
     {
         self.alive = false;
         self.fault = Some(Fault { deed, block, error });
@@ -99,7 +107,8 @@ impl FileDisk {
     // Fills what is lent with the blocks from a number on; nothing past the disk's end.
     fn fetch(&mut self, from: u64, out: &mut [u8]) -> bool
         requires { ⌜ now self .alive ≡ true ⌝ }
-        ensures { λ r. ⌜ now (self .exit) .alive ≡ r ⌝ }
+        ensures alive { λ r. ⌜ now (self .exit) .alive ≡ r ⌝ }
+        ensures blocks { λ _. ⌜ now (self .exit) .blocks ≡ now (self .entry) .blocks ⌝ }
     {
         let Some(at) = place(self.blocks, from) else {
             return true;
@@ -113,7 +122,8 @@ impl FileDisk {
     // Writes a block, to last; nothing past the disk's end.
     fn store(&mut self, block: u64, bytes: &[u8; 1024]) -> bool
         requires { ⌜ now self .alive ≡ true ⌝ }
-        ensures { λ r. ⌜ now (self .exit) .alive ≡ r ⌝ }
+        ensures alive { λ r. ⌜ now (self .exit) .alive ≡ r ⌝ }
+        ensures blocks { λ _. ⌜ now (self .exit) .blocks ≡ now (self .entry) .blocks ⌝ }
     {
         let Some(at) = place(self.blocks, block) else {
             return true;
@@ -126,12 +136,15 @@ impl FileDisk {
             Err(error) => self.dies(Deed::Sync, block, error),
         }
     }
-}
 
-pub impl Device for FileDisk as FileDevice {
-    ghost known = { λ _. None };
-
-    fn read(&mut self, from: u64, out: &mut [u8]) -> bool {
+    // Reads as many whole blocks as fit, from a block on. Past the disk's end blocks are empty. False: the
+    // disk is dead, or died of this.
+    pub fn read_blocks(&mut self, from: u64, out: &mut [u8]) -> bool
+        ensures past { λ r. ⌜ (r ≡ true → Empty-from (page-size * min (now (self .entry) .blocks - from) (length (now (out .entry)) / page-size)) (now (out .exit))) ⌝ }
+        ensures alive { λ r. ⌜ now (self .exit) .alive ≡ r ⌝ }
+        ensures lived { λ r. ⌜ (r ≡ true → now (self .entry) .alive ≡ true) ⌝ }
+        ensures blocks { λ _. ⌜ now (self .exit) .blocks ≡ now (self .entry) .blocks ⌝ }
+    {
         if !self.alive {
             return false;
         }
@@ -140,11 +153,29 @@ pub impl Device for FileDisk as FileDevice {
         self.fetch(from, &mut out[0..n])
     }
 
-    fn write(&mut self, block: u64, bytes: &[u8; 1024]) -> bool {
+    // Writes a block, to last. Past the disk's end nothing is written. False: the disk is dead, or died of
+    // this.
+    pub fn write_block(&mut self, block: u64, bytes: &[u8; 1024]) -> bool
+        ensures alive { λ r. ⌜ now (self .exit) .alive ≡ r ⌝ }
+        ensures lived { λ r. ⌜ (r ≡ true → now (self .entry) .alive ≡ true) ⌝ }
+        ensures blocks { λ _. ⌜ now (self .exit) .blocks ≡ now (self .entry) .blocks ⌝ }
+    {
         if !self.alive {
             return false;
         }
         self.store(block, bytes)
+    }
+}
+
+pub impl Device for FileDisk as FileDevice {
+    ghost known = { λ _. None };
+
+    fn read(&mut self, from: u64, out: &mut [u8]) -> bool {
+        self.read_blocks(from, out)
+    }
+
+    fn write(&mut self, block: u64, bytes: &[u8; 1024]) -> bool {
+        self.write_block(block, bytes)
     }
 
     fn is_alive(&self) -> bool {

@@ -5,10 +5,12 @@
 // that nothing takes for a register.
 ghost use mathlib.Core.Path.{_≡_};
 ghost use mathlib.Core.Bool.{true, false};
-ghost use Prim.Native.Nat.{_+_, _≤_, min};
+ghost use mathlib.Core.List.{_++_};
+ghost use Prim.Native.Nat.{_+_, _*_, _<_, _≤_, min};
 ghost use Rattle.std.specs.declared.option.Option.the-variants.{None};
-ghost use Rattle.std.specs.Of.Vec.{vec-items};
-ghost use Rattle.model.specs.Numbers.{first-page, most-pages};
+ghost use Rattle.std.specs.Of.Vec.{vec-items, vec-len};
+ghost use Rattle.std.specs.Results.{isOk};
+ghost use Rattle.model.specs.Numbers.{first-page, most-pages, page-size};
 use crate::descriptor::Descriptor;
 use crate::span::at_most;
 use crate::span::file_length;
@@ -33,6 +35,7 @@ pub struct NewDisk {
     // The system's number for what failed.
     error: i32,
     ghost bounded: { blocks ≤ most-pages + first-page },
+    ghost gathered: { vec-len run + page-size * first ≡ page-size * next },
 }
 
 impl NewDisk {
@@ -63,6 +66,7 @@ impl NewDisk {
 
     // Dies where something failed.
     fn settle(&mut self, result: Result<(), i32>) -> bool
+        ensures answer { λ r. ⌜ r ≡ isOk result ⌝ }
         ensures alive { λ r. ⌜ (r ≡ true → now (self .exit) ≡ now (self .entry)) ⌝ }
         ensures dead { λ r. ⌜ (r ≡ false → now (self .exit) .alive ≡ false) ⌝ }
         ensures blocks { λ _. ⌜ now (self .exit) .blocks ≡ now (self .entry) .blocks ⌝ }
@@ -78,27 +82,75 @@ impl NewDisk {
     }
 
     // Writes what is gathered.
-    fn flush(&mut self) -> bool {
-        let Some(at) = place(self.blocks, self.first) else {
-            self.run.clear();
-            return true;
+    fn flush(&mut self) -> bool
+        ensures blocks { λ _. ⌜ now (self .exit) .blocks ≡ now (self .entry) .blocks ⌝ }
+        ensures alive { λ r. ⌜ (r ≡ true → now (self .exit) .alive ≡ now (self .entry) .alive) ⌝ }
+        ensures dead { λ r. ⌜ (r ≡ false → now (self .exit) .alive ≡ false) ⌝ }
+    {
+        let written = match place(self.blocks, self.first) {
+            Some(at) => self.file.write_at(self.run.as_slice(), at),
+            None => Ok(()),
         };
-        let written = self.file.write_at(self.run.as_slice(), at);
         self.run.clear();
+        self.first = self.next;
         self.settle(written)
     }
 
-    // Adds a block to the run.
-    fn gather(&mut self, block: u64, bytes: &[u8; 1024]) -> bool {
-        if self.run.extend_from_slice(bytes).is_err() {
-            return self.settle(Err(libc::ENOMEM));
+    // Begins a run at a block, unless the block continues the run that is gathered.
+    fn turn_to(&mut self, block: u64) -> bool
+        ensures next { λ r. ⌜ (r ≡ true → now (self .exit) .next ≡ block) ⌝ }
+        ensures blocks { λ _. ⌜ now (self .exit) .blocks ≡ now (self .entry) .blocks ⌝ }
+        ensures alive { λ r. ⌜ (r ≡ true → now (self .exit) .alive ≡ now (self .entry) .alive) ⌝ }
+        ensures dead { λ r. ⌜ (r ≡ false → now (self .exit) .alive ≡ false) ⌝ }
+    {
+        if block == self.next && self.run.len() < RUN {
+            return true;
         }
-        self.next = block.saturating_add(1);
+        if !self.flush() {
+            return false;
+        }
+        self.run.clear();
+        self.first = block;
+        self.next = block;
         true
     }
 
+    // Adds the next block to the run.
+    fn gather(&mut self, bytes: &[u8; 1024]) -> bool
+        requires { ⌜ now self .next < now self .blocks ⌝ }
+        ensures run { λ r. ⌜ (r ≡ true → vec-items (now (self .exit) .run) ≡ vec-items (now (self .entry) .run) ++ now (bytes .entry)) ⌝ }
+        ensures alive { λ r. ⌜ (r ≡ true → now (self .exit) .alive ≡ now (self .entry) .alive) ⌝ }
+        ensures dead { λ r. ⌜ (r ≡ false → now (self .exit) .alive ≡ false) ⌝ }
+    {
+        if self.run.extend_from_slice(bytes).is_err() {
+            return self.settle(Err(libc::ENOMEM));
+        }
+        self.next += 1;
+        true
+    }
+
+    // Takes a block. Past the disk's end nothing is written. False: the making failed.
+    pub fn write_block(&mut self, block: u64, bytes: &[u8; 1024]) -> bool
+        ensures alive { λ r. ⌜ now (self .exit) .alive ≡ r ⌝ }
+        ensures lived { λ r. ⌜ (r ≡ true → now (self .entry) .alive ≡ true) ⌝ }
+    {
+        if !self.alive {
+            return false;
+        }
+        if block >= self.blocks {
+            return true;
+        }
+        if !self.turn_to(block) {
+            return false;
+        }
+        self.gather(bytes)
+    }
+
     // Writes what is left and makes all of it last. False: something failed, and there is no disk.
-    pub fn end(&mut self) -> bool {
+    pub fn end(&mut self) -> bool
+        ensures alive { λ r. ⌜ now (self .exit) .alive ≡ r ⌝ }
+        ensures lived { λ r. ⌜ (r ≡ true → now (self .entry) .alive ≡ true) ⌝ }
+    {
         if !self.alive {
             return false;
         }
@@ -128,19 +180,7 @@ pub impl Device for NewDisk as NewDevice {
     }
 
     fn write(&mut self, block: u64, bytes: &[u8; 1024]) -> bool {
-        if !self.alive {
-            return false;
-        }
-        if block >= self.blocks {
-            return true;
-        }
-        if block != self.next || self.run.len() >= RUN {
-            if !self.flush() {
-                return false;
-            }
-            self.first = block;
-        }
-        self.gather(block, bytes)
+        self.write_block(block, bytes)
     }
 
     fn is_alive(&self) -> bool {

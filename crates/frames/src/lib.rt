@@ -7,6 +7,7 @@ ghost use mathlib.Core.Path.{_≡_};
 ghost use Prim.Native.Nat.{_+_, _≤_};
 ghost use lib.ListN.{length};
 ghost use Rattle.std.specs.Results.{Cases as ByOk};
+ghost use Rattle.frames.specs.Kept.{Decide};
 use bytes::put_u32;
 use std::io;
 use std::io::ErrorKind;
@@ -17,6 +18,14 @@ use wire::answer::Answer;
 
 // How many bytes of a call are kept.
 pub const KEPT: usize = 1030;
+
+// That they decide: whatever a call's bytes are, the first of them have its answer, and leave the book that
+// it leaves.
+pub fn first_bytes_decide() -> usize
+    ensures { λ r. ⌜ Decide r ⌝ }
+{
+    KEPT
+}
 
 // What comes next.
 pub enum Frame {

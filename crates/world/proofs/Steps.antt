@@ -65,13 +65,17 @@ lives-view d h = go (or-cases (d .first .lives) (d .second .lives || false) h)
 -- deaths
 pub died : (d e : Both) (n : ℕ) (up : Bool) (w : Work) (k : ℕ) (held : Page) (un : List Under) (hs : List Happening) → Ran [] (view d) (view e) →
     Reached d n up w k held un hs → Reached e n up w k held un hs
-died d e n up w k held un hs r q = (q .0, q .1, λ al.
-    let there : alive (view e) ≡ true = view-alive e al in
-    let z = q .2 (lives-view d (ran-alive r there)) in (
-      z .0,
-      (z .1 .0, (λ h. ran-keeps (z .0) tt r (z .1 .1 h)), z .1 .2, z .1 .3),
-      run-lives (limits n) [] up un hs (drop k (work-writes w (z .0))) r there (z .2),
-    ))
+died d e n up w k held un hs r q = (
+  q .0,
+  q .1,
+  λ al.
+      let there : alive (view e) ≡ true = view-alive e al in
+      let z = q .2 (lives-view d (ran-alive r there)) in (
+        z .0,
+        (z .1 .0, (λ h. ran-keeps (z .0) tt r (z .1 .1 h)), z .1 .2, z .1 .3),
+        run-lives (limits n) [] up un hs (drop k (work-writes w (z .0))) r there (z .2),
+      ),
+)
 
 pub first-dead : (d : Both) (a : Known) → a .has ≡ d .first .has → a .lives ≡ false → Ran [] (view d) (view (record { first = a; second = d .second }))
 unfolding killed-from
@@ -115,10 +119,14 @@ told d n w k held c a hs al none q =
 -- recovery is done
 pub up-again : (d : Both) (n : ℕ) (w : Work) (k : ℕ) (held : Page) (un : List Under) (hs : List Happening) → ((b : List Page) → drop k (work-writes w b) ≡ []) →
     Reached d n false w k held un hs → Reached d n true w k held [] hs
-up-again d n w k held un hs none q = (q .0, q .1, λ al.
-    let z = q .2 al in
-    let T : List (On Put) → Type 0 = λ ws. Lived plain register (limits n) (record { disks = view d; memory = []; up = true; todo = ws; under = []; past = hs }) in
-    (z .0, z .1, subst T (sym (none (z .0))) (mended (z .2) refl (none (z .0)))))
+up-again d n w k held un hs none q = (
+  q .0,
+  q .1,
+  λ al.
+      let z = q .2 al in
+      let T : List (On Put) → Type 0 = λ ws. Lived plain register (limits n) (record { disks = view d; memory = []; up = true; todo = ws; under = []; past = hs }) in
+      (z .0, z .1, subst T (sym (none (z .0))) (mended (z .2) refl (none (z .0)))),
+)
 
 -- the next block is written
 can-do : (w : Work) (b : List Page) (d : Both) (s : Side) (kind : WriteKind) (block : ℕ) (held : Page) → (replays (w .plan) ≡ true → Log-same (view d) b) →
@@ -155,24 +163,28 @@ performing d e n up w k x held held' un hs r b at done by =
 pub wrote-next : (d e : Both) (n : ℕ) (up : Bool) (w : Work) (k : ℕ) (x : Write) (held held' : Page) (un : List Under) (hs : List Happening) → one-lives d ≡ true →
     ((b : List Page) → nth b 1 ≡ w .list → Some (write-means (w .block) b x) ≡ item (work-writes w b) k) → Performed (Some d) (Some e) w x held held' true →
     Reached d n up w k held un hs → Reached e n up w (k + 1) held' un hs
-wrote-next d e n up w k x held held' un hs al is done q = (q .0, q .1, λ there.
-    let z = q .2 al in
-    let b : List Page = z .0 in
-    let p : On Put = write-means (w .block) b x in
-    let at : Some p ≡ item (work-writes w b) k = is b (z .1 .0) in
-    let f = performing d e n up w k x held held' un hs true b at done (z .1) in
-    let L : List (On Put) → Type 0 = λ ws. Lived plain register (limits n) (record { disks = view d; memory = []; up = up; todo = ws; under = un; past = hs }) in
-    let K : Page → Type 0 = λ y. Held-for (drop (k + 1) (work-writes w b)) y in
-    let N : ℕ → Type 0 = λ j. Held-for (drop j (work-writes w b)) (p .item .content) in (
-      b,
-      (
-        z .1 .0,
-        (λ h. ran-keeps b (keep-item b (work-writes w b) k p at (all-keep w b (z .1 .2) h), tt) (f .0) (z .1 .1 h)),
-        z .1 .2,
-        subst K (sym (f .2 refl)) (subst N (sym (add-one k)) (pair-held (w .copy) (w .block) (plan-puts (w .plan) (w .block) b) k p at)),
+wrote-next d e n up w k x held held' un hs al is done q = (
+  q .0,
+  q .1,
+  λ there.
+      let z = q .2 al in
+      let b : List Page = z .0 in
+      let p : On Put = write-means (w .block) b x in
+      let at : Some p ≡ item (work-writes w b) k = is b (z .1 .0) in
+      let f = performing d e n up w k x held held' un hs true b at done (z .1) in
+      let L : List (On Put) → Type 0 = λ ws. Lived plain register (limits n) (record { disks = view d; memory = []; up = up; todo = ws; under = un; past = hs }) in
+      let K : Page → Type 0 = λ y. Held-for (drop (k + 1) (work-writes w b)) y in
+      let N : ℕ → Type 0 = λ j. Held-for (drop j (work-writes w b)) (p .item .content) in (
+        b,
+        (
+          z .1 .0,
+          (λ h. ran-keeps b (keep-item b (work-writes w b) k p at (all-keep w b (z .1 .2) h), tt) (f .0) (z .1 .1 h)),
+          z .1 .2,
+          subst K (sym (f .2 refl)) (subst N (sym (add-one k)) (pair-held (w .copy) (w .block) (plan-puts (w .plan) (w .block) b) k p at)),
+        ),
+        run-lives (limits n) [] up un hs (drop (k + 1) (work-writes w b)) (f .0) (view-alive e there) (subst L (f .3) (z .2)),
       ),
-      run-lives (limits n) [] up un hs (drop (k + 1) (work-writes w b)) (f .0) (view-alive e there) (subst L (f .3) (z .2)),
-    ))
+)
 
 -- where no disk is left, nothing is promised but what was explained before
 pub left-dead : (d e : Both) (n : ℕ) (up up' : Bool) (w w' : Work) (k k' : ℕ) (held held' : Page) (un un' : List Under) (hs : List Happening) → one-lives e ≡ false →
@@ -217,24 +229,28 @@ pub began : (d e : Both) (n : ℕ) (w : Work) (k : ℕ) (held : Page) (t : Turn)
     Begun (Some d) (Some e) n c page (Some t) → Reached d n true w k held [] hs →
     Reached e n true (t .work) 0 held (record { call = c; answer = reply-means (t .reply) page; memory = [] } ∷ []) hs
 unfolding seen
-began d e n w k held t c page hs al none start q = (q .0, q .1, λ there.
-    let z = q .2 al in
-    let l = limits n in
-    let T : List (On Put) → Type 0 = λ ws. Lived plain register l (record { disks = view d; memory = []; up = true; todo = ws; under = []; past = hs }) in
-    let rest : T [] = subst T (none (z .0)) (z .2) in
-    let here = rested n (q .0) d hs rest in
-    let b : List Page = here .0 in
-    let f = start d refl b (here .1) (here .2) in
-    let E : Both → Type 0 = λ y. Ran [] (view d) (view y) in
-    let r : Ran [] (view d) (view e) = subst E (sym (some-same e (f .0) (f .1))) (f .2) in
-    let u : Answer → Under = λ a. record { call = c; answer = a; memory = [] } in
-    let F : List Page → Type 0 = λ x. Lived plain register l (busy [] true (u (answer l (book-of x) c) ∷ []) hs (view d) (mirrored copies (puts-of l x c))) in
-    let on : F b = subst F (here .3) (begins c rest refl refl refl) in
-    let A : Answer → Type 0 = λ a. Lived plain register l (busy [] true (u a ∷ []) hs (view d) (mirrored copies (puts-of l b c))) in
-    let W : List (On Put) → Type 0 = λ ws. Lived plain register l (busy [] true (u (reply-means (t .reply) page) ∷ []) hs (view e) ws) in
-    let by = begun-by d e (t .work) b held (here .1) r (f .3 .2) (f .3 .3) in
-    let there-on = run-lives l [] true (u (reply-means (t .reply) page) ∷ []) hs (mirrored copies (puts-of l b c)) r (view-alive e there) (subst A (sym (f .3 .0)) on) in
-    (by .0, by .1, back-to W (by .2) (back-to W (f .3 .1) there-on)))
+began d e n w k held t c page hs al none start q = (
+  q .0,
+  q .1,
+  λ there.
+      let z = q .2 al in
+      let l = limits n in
+      let T : List (On Put) → Type 0 = λ ws. Lived plain register l (record { disks = view d; memory = []; up = true; todo = ws; under = []; past = hs }) in
+      let rest : T [] = subst T (none (z .0)) (z .2) in
+      let here = rested n (q .0) d hs rest in
+      let b : List Page = here .0 in
+      let f = start d refl b (here .1) (here .2) in
+      let E : Both → Type 0 = λ y. Ran [] (view d) (view y) in
+      let r : Ran [] (view d) (view e) = subst E (sym (some-same e (f .0) (f .1))) (f .2) in
+      let u : Answer → Under = λ a. record { call = c; answer = a; memory = [] } in
+      let F : List Page → Type 0 = λ x. Lived plain register l (busy [] true (u (answer l (book-of x) c) ∷ []) hs (view d) (mirrored copies (puts-of l x c))) in
+      let on : F b = subst F (here .3) (begins c rest refl refl refl) in
+      let A : Answer → Type 0 = λ a. Lived plain register l (busy [] true (u a ∷ []) hs (view d) (mirrored copies (puts-of l b c))) in
+      let W : List (On Put) → Type 0 = λ ws. Lived plain register l (busy [] true (u (reply-means (t .reply) page) ∷ []) hs (view e) ws) in
+      let by = begun-by d e (t .work) b held (here .1) r (f .3 .2) (f .3 .3) in
+      let there-on = run-lives l [] true (u (reply-means (t .reply) page) ∷ []) hs (mirrored copies (puts-of l b c)) r (view-alive e there) (subst A (sym (f .3 .0)) on) in
+      (by .0, by .1, back-to W (by .2) (back-to W (f .3 .1) there-on)),
+)
 
 -- no disk was left while it was read
 pub began-none : (d e : Both) (n : ℕ) (up : Bool) (w : Work) (k : ℕ) (held : Page) (c : Call) (page : Page) (hs : List Happening) → up ≡ true → one-lives d ≡ true → ((b : List Page) → drop k (work-writes w b) ≡ []) →
@@ -321,9 +337,12 @@ new-world d e n w k held r size long none plan done made =
     let E : Both → Type 0 = λ y. (r ≡ one-lives y) × (r ≡ true → living.Reached n y []) in
     let g : E e = subst E (sym same) (f .2, f .3) in
     let T : List (On Put) → Type 0 = λ ws. Lived plain register (limits n) (record { disks = view e; memory = []; up = true; todo = ws; under = []; past = [] }) in
-    let H : List (On Put) → Type 0 = λ ws. Held-for ws held in
-    (size, (_, Leads.at-first), λ there. (
-      b,
-      (list-second (w .list), (λ z. absurd (both-ways (replays (w .plan)) plan z)), copies-none w b none, subst H (sym (done b)) tt),
-      subst T (sym (done b)) (g .1 (g .0 ∙ there)),
-    ))
+    let H : List (On Put) → Type 0 = λ ws. Held-for ws held in (
+      size,
+      (_, Leads.at-first),
+      λ there. (
+        b,
+        (list-second (w .list), (λ z. absurd (both-ways (replays (w .plan)) plan z)), copies-none w b none, subst H (sym (done b)) tt),
+        subst T (sym (done b)) (g .1 (g .0 ∙ there)),
+      ),
+    )

@@ -18,16 +18,20 @@ ghost-self c = (λ t. ∥∥₁-map (c .args .self .now .reached t) (λ q. power
 pub ghost-self-then-is-err : need.ghost-self-then-is-err
 unfolding together
 ghost-self-then-is-err c =
-    let same : vec-items (c .push-noted .last .self) ≡ vec-items (c .args .self .now .past) = search needs in
-    (λ t. ∥∥₁-map (c .args .self .now .reached t) (λ q.
-    stops-not _ _ (c .args .self .now .work) _ _ _ _ _ (c .in-Some .work) _ _ (sym (c .if-not-has-disk .ensures tt)) (c .in-Some .ensures tt) same q), tt)
+    let same : vec-items (c .push-noted .last .self) ≡ vec-items (c .args .self .now .past) = search needs in (
+      λ t. ∥∥₁-map (c .args .self .now .reached t) (λ q.
+          stops-not _ _ (c .args .self .now .work) _ _ _ _ _ (c .in-Some .work) _ _ (sym (c .if-not-has-disk .ensures tt)) (c .in-Some .ensures tt) same q),
+      tt,
+    )
 
 pub ghost-self-2 : need.ghost-self-2
 unfolding together
 ghost-self-2 c =
-    let more : vec-items (c .push-noted .last .self) ≡ vec-items (c .args .self .now .past) ++ (c .cut-event .result ∷ []) = search needs in
-    (λ t. ∥∥₁-map (c .args .self .now .reached t) (λ q.
-    stops _ _ (c .args .self .now .work) _ _ _ _ _ (c .in-Some .work) _ _ _ (c .cut-event .result) (c .if-not-self .left) (sym (c .if-not-has-disk .ensures tt)) (c .in-Some .ensures tt) refl more (c .cut-event .ensures .means) q), tt)
+    let more : vec-items (c .push-noted .last .self) ≡ vec-items (c .args .self .now .past) ++ (c .cut-event .result ∷ []) = search needs in (
+      λ t. ∥∥₁-map (c .args .self .now .reached t) (λ q.
+          stops _ _ (c .args .self .now .work) _ _ _ _ _ (c .in-Some .work) _ _ _ (c .cut-event .result) (c .if-not-self .left) (sym (c .if-not-has-disk .ensures tt)) (c .in-Some .ensures tt) refl more (c .cut-event .ensures .means) q),
+      tt,
+    )
 
 pub returns : need.returns
 returns c =

@@ -11,5 +11,8 @@ ghost-self c = (λ t. ∥∥₁-map (c .args .self .now .reached t) (λ q. power
 
 pub ghost-self-2 : need.ghost-self-2
 unfolding together
-ghost-self-2 c = (λ t. ∥∥₁-map (c .args .self .now .reached t) (λ q.
-    stops-again _ _ (c .args .self .now .work) _ _ _ _ _ (c .in-Some .work) _ _ (c .if-self .left) (sym (c .if-not-has-disk .ensures tt)) (c .in-Some .ensures tt) refl q), tt)
+ghost-self-2 c = (
+  λ t. ∥∥₁-map (c .args .self .now .reached t) (λ q.
+      stops-again _ _ (c .args .self .now .work) _ _ _ _ _ (c .in-Some .work) _ _ (c .if-self .left) (sym (c .if-not-has-disk .ensures tt)) (c .in-Some .ensures tt) refl q),
+  tt,
+)

@@ -16,6 +16,8 @@ ghost-self c =
 
 pub ghost-self-2 : need.ghost-self-2
 ghost-self-2 c =
-    let more : vec-items (c .push-noted .last .self) ≡ vec-items (c .args .self .now .past) ++ (Answered (c .in-Some .under .call) (c .in-Some .under .answer) ∷ []) = search needs in
-    (λ t. ∥∥₁-map (c .args .self .now .reached t) (λ q.
-    tells _ _ (c .args .self .now .work) _ _ _ _ (c .in-Some .under) _ _ (c .if-not-self .left) (sym (c .if-not-has-disk .ensures tt)) (nothing-left (c .args .self .now .work) _ (c .if-not-is-idle .ensures tt)) (c .in-Some .is) more q), tt)
+    let more : vec-items (c .push-noted .last .self) ≡ vec-items (c .args .self .now .past) ++ (Answered (c .in-Some .under .call) (c .in-Some .under .answer) ∷ []) = search needs in (
+      λ t. ∥∥₁-map (c .args .self .now .reached t) (λ q.
+          tells _ _ (c .args .self .now .work) _ _ _ _ (c .in-Some .under) _ _ (c .if-not-self .left) (sym (c .if-not-has-disk .ensures tt)) (nothing-left (c .args .self .now .work) _ (c .if-not-is-idle .ensures tt)) (c .in-Some .is) more q),
+      tt,
+    )
