@@ -19,8 +19,8 @@ pub clear-one : (at i : ℕ) (xs ys : List ℕ) → at ≤ i → i < length ys �
 clear-one at i xs ys le lt h = (
   λ k below. getD-set-other ys i k 0 0 (λ e. absurd (omega (arith, e))) ∙ h .0 k below,
   λ k above under. elim (cases-eq k i) [
-    inl e ↦ ap (λ j. getD (set ys i 0) j 0) e ∙ getD-set-same ys i 0 0 lt |
-    inr ne ↦ getD-set-other ys i k 0 0 (λ e. ne e) ∙ h .1 k above (omega (arith, ne))
+    | inl e ↦ ap (λ j. getD (set ys i 0) j 0) e ∙ getD-set-same ys i 0 0 lt
+    | inr ne ↦ getD-set-other ys i k 0 0 (λ e. ne e) ∙ h .1 k above (omega (arith, ne))
   ],
 )
 
