@@ -3,6 +3,8 @@
 // The code above this crate is written once, for any device. What a device holds is a ghost: known for a
 // disk in memory, so that all that is proved of the register can be said of it, and unknown for a file, of
 // which no contract can speak. The same code then runs on files.
+#![tactic(auto)]
+
 pub mod blocks;
 pub mod memory;
 pub mod mirror;

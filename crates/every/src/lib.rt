@@ -4,6 +4,8 @@
 // for a death, also while something is read. Power goes once more in the recovery that follows, and once
 // more in the one after that; one disk dies, at any moment of all these plays. Each world that is met is
 // looked at, and a world at rest that was met before is not played again.
+#![tactic(auto)]
+
 pub mod advance;
 pub mod digest;
 pub mod explore;

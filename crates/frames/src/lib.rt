@@ -3,6 +3,8 @@
 // A call may claim any length. Only its first 1,030 bytes are kept, since they decide: a write that is
 // longer has no page of 1,024 bytes, and any other call ceases to be one within its first six. So a frame
 // of any length is answered in fixed memory.
+#![tactic(auto)]
+
 ghost use Rattle.std.specs.Prelude.{◌≡◌, ◌≤◌, take, IfOk};
 ghost use Rattle.wire.specs.Answers.{answered, answer_bytes};
 ghost use Rattle.frames.specs.Kept.{Decide};

@@ -2,6 +2,8 @@
 // everything that can happen, and what is promised. It is all in specs/; no code runs here.
 //
 // The functions below do nothing when they run: each stands for the statements that its contract exports.
+#![tactic(auto)]
+
 ghost use Rattle.std.specs.Prelude.{ℕ, Bool};
 ghost use Rattle.model.specs.Disks.{Program};
 ghost use Rattle.model.specs.Plain.{Put, plain};

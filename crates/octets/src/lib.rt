@@ -2,6 +2,8 @@
 //
 // Every format of the register is built of these few moves. Their contracts say exactly which bytes stand
 // where afterwards, as one equation of lists for each slice that is changed.
+#![tactic(auto)]
+
 ghost use Rattle.std.specs.Prelude.{◌≡◌, ◌+◌, ◌≤◌, length, Decides};
 ghost use Rattle.model.specs.Book.{empty_page};
 ghost use Rattle.octets.specs.Words.{le4, num4, overwritten, part, ReadsBack, KeepsOthers};

@@ -3,6 +3,8 @@
 // The engine's contracts speak of disks of which all is known, and of others they say nothing. These are the
 // same contracts with what is known written out: the blocks that the bytes of each disk are, and whether it
 // lives. So they would fail, and not fall silent, if of a disk in memory less were known than that.
+#![tactic(auto)]
+
 ghost use Rattle.std.specs.Prelude.{◌≡◌, false, is_some, Some};
 ghost use Rattle.wire.specs.Calls.{call_of};
 ghost use Rattle.engine.specs.Calling.{Answered};

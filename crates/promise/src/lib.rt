@@ -2,6 +2,8 @@
 //
 // The functions here do nothing when they run: each stands for the statements that its contract exports,
 // so that a reader, and a crate above, can take them from the code.
+#![tactic(auto)]
+
 ghost use Rattle.model.specs.Plain.{plain};
 ghost use Rattle.model.specs.Promise.{Right, thin, all};
 ghost use Rattle.model.specs.Statements.{PagesStand, ReplicasSame, OneDiffers, RecoveredOnce, MadeEmpty, RefusedWritesNothing};

@@ -1,4 +1,6 @@
 // The register on two files that play two disks.
+#![tactic(auto)]
+
 mod calls;
 mod change;
 mod check;

@@ -9,6 +9,8 @@
 // The words `--play`, `--draw` and `--every` hold for the scripts that follow, up to the next such word. All
 // is played before anything is printed or written, so that a script that can't be read or played prints one
 // line, which names the file and the line, and nothing else.
+#![tactic(auto)]
+
 mod watch;
 
 use every::explore::{Outcome, explore};

@@ -4,6 +4,8 @@
 // ceases to be one at a place that can be told; and every call and every answer has one string of bytes, and
 // is read back as it was written. Nothing is copied to be read: a write's page stays in the bytes in which it
 // came, and is lent from there.
+#![tactic(auto)]
+
 ghost use Rattle.std.specs.Prelude.{◌≡◌, ◌<◌, ◌≤◌, length, drop, MatchOption};
 ghost use Rattle.octets.specs.Words.{num4};
 
