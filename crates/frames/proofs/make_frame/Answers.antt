@@ -8,7 +8,7 @@ returns-in-default c =
     let l : length c.args.frame.now ≡ 1029 = search rules in
     record {
       len = omega arith;
-      bytes = unframed (answer_bytes (answered c.args.answer)) _ (omega (arith, room c.args.frame.now l, c.in-default.ensures.0)) (ap (λ (x : List ℕ). take 4 x) c.put-u32.ensures);
+      bytes = unframed (answer_bytes (answered c.args.answer)) _ (omega (arith, room c.args.frame.now l, c.in-default.ensures.0)) (ap (λ (x : List ℕ). take 4 x) c.put_u32.ensures);
     }
 
 pub returns : goal.returns
@@ -19,5 +19,5 @@ returns c =
       len = omega (arith, long, c.in-Some.ensures.0, c.in-Some.ensures.1);
       bytes =
           framed (answer_bytes (answered c.args.answer)) _ c.in-Some.n c.in-Some.ensures.1 (omega (arith, long, c.in-Some.ensures.0))
-          (front c.args.frame.now _ c.put-u32-2.new.dst c.encode.new.out _ (answer_bytes (answered c.args.answer)) _ c.in-Some.n refl c.in-Some.ensures.2 c.put-u32-2.ensures c.in-Some.ensures.1 (omega (arith, l)));
+          (front c.args.frame.now _ c.put_u32-2.new.dst c.encode.new.out _ (answer_bytes (answered c.args.answer)) _ c.in-Some.n refl c.in-Some.ensures.2 c.put_u32-2.ensures c.in-Some.ensures.1 (omega (arith, l)));
     }

@@ -11,9 +11,9 @@ returns-then-block-count c =
 pub overflow-mul-block : goal.overflow-mul-block
 overflow-mul-block c = omega (arith, c.count.ensures.bound)
 
-pub block-at-requires : goal.block-at-requires
+pub block-at-requires : goal.block_at-requires
 block-at-requires c = block_inside c.args.disk.now c.args.block (omega (arith, c.count.ensures.value))
 
 pub returns : goal.returns
 returns c =
-    c.copy-block.ensures ∙ c.block-at.ensures.value ∙ sym (nth_whole c.args.disk.now c.args.block (omega (arith, c.count.ensures.value)))
+    c.copy_block.ensures ∙ c.block_at.ensures.value ∙ sym (nth_whole c.args.disk.now c.args.block (omega (arith, c.count.ensures.value)))

@@ -6,12 +6,12 @@ use Rattle.device.proofs.blocks.write_block.Goals as goal
 pub overflow-mul-block : goal.overflow-mul-block
 overflow-mul-block c = omega (arith, c.count.ensures.bound)
 
-pub put-block-requires : goal.put-block-requires
+pub put-block-requires : goal.put_block-requires
 put-block-requires c = (block_inside c.args.disk.now c.args.block (omega (arith, c.count.ensures.value)), c.requires)
 
 pub returns-then-block-count : goal.returns-then-block-count
 returns-then-block-count c =
-    whole_written c.args.disk.now _ c.args.bytes.now c.args.block c.requires (omega (arith, c.count.ensures.value)) c.put-block.ensures
+    whole_written c.args.disk.now _ c.args.bytes.now c.args.block c.requires (omega (arith, c.count.ensures.value)) c.put_block.ensures
 
 pub returns-else-block-count : goal.returns-else-block-count
 returns-else-block-count c =

@@ -36,7 +36,7 @@ returns-in-Err-admit g c d is b agree len =
           c.idle-in-Err-admit.ensures.reply c.idle-in-Err-admit.ensures.plan c.idle-in-Err-admit.ensures.copy),
     )
 
-pub begin-logged-requires : goal.begin-logged-requires
+pub begin-logged-requires : goal.begin_logged-requires
 begin-logged-requires g c =
     let f = c.in-Ok-admit.ensures in
     let e = c.in-Ok.ensures in (
@@ -78,4 +78,4 @@ returns-in-Size g c d is b agree len =
 pub returns-in-Write : goal.returns-in-Write
 returns-in-Write g c =
     let f = c.in-Ok-admit.ensures in
-    begun_as _ _ c.args.pages (meant c.in-Ok-admit.call) (call_of c.args.bytes.now) c.args.page.now _ (f.1 ∙ c.in-Ok.ensures) c.begin-logged.ensures
+    begun_as _ _ c.args.pages (meant c.in-Ok-admit.call) (call_of c.args.bytes.now) c.args.page.now _ (f.1 ∙ c.in-Ok.ensures) c.begin_logged.ensures

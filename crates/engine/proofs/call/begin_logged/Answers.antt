@@ -23,7 +23,7 @@ returns g c d is b agree len =
       h.0,
       h.1,
       h.2,
-      logged_turn c.args.pages b (meant c.args.call) c.args.page.now c.writing.result c.in-Some.log.count c.in-Ok.plan c.read-log.new.list c.given.result
+      logged_turn c.args.pages b (meant c.args.call) c.args.page.now c.writing.result c.in-Some.log.count c.in-Ok.plan c.read_log.new.list c.given.result
           c.requires.1.0 c.requires.1.1 c.requires.0 h.3.1 f.0 c.given.ensures f.2 h.3.2
           c.writing.ensures.reply c.writing.ensures.plan c.writing.ensures.copy c.writing.ensures.list c.writing.ensures.block,
     )

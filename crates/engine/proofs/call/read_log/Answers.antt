@@ -4,5 +4,5 @@ use Rattle.engine.proofs.call.read_log.Goals as goal
 
 pub returns : goal.returns
 returns g c =
-    log_was_read _ _ c.args.pages c.read.new.out c.block-at-2.result.now c.copy-block.new.to _ c.decode.result c.read.ensures c.if-not-read.false (search rules)
-    c.block-at-2.ensures.value (c.copy-block.ensures ∙ c.block-at.ensures.value) c.decode.ensures.holds c.decode.ensures.count
+    log_was_read _ _ c.args.pages c.read.new.out c.block_at-2.result.now c.copy_block.new.to _ c.decode.result c.read.ensures c.if-not-read.false (search rules)
+    c.block_at-2.ensures.value (c.copy_block.ensures ∙ c.block_at.ensures.value) c.decode.ensures.holds c.decode.ensures.count

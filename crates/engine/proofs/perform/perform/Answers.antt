@@ -5,4 +5,4 @@ pub returns-then-not-ready : goal.returns-then-not-ready
 returns-then-not-ready g c = performed_dead _ _ c.args.work.now c.args.write c.args.held.now _ _ c.ready.ensures c.if-not-ready.true
 
 pub returns : goal.returns
-returns g c = performed _ _ _ c.args.work.now c.args.write c.args.held.now _ _ _ c.ready.ensures c.if-not-ready.false c.write.ensures c.is-alive.ensures
+returns g c = performed _ _ _ c.args.work.now c.args.write c.args.held.now _ _ _ c.ready.ensures c.if-not-ready.false c.write.ensures c.is_alive.ensures

@@ -3,7 +3,7 @@ use Rattle.engine.proofs.Stepping.{half_more, halfway_on, halfway_none, half_dea
 use Rattle.engine.proofs.perform.put_step.Goals as goal
 
 pub returns-in-default : goal.returns-in-default
-returns-in-default g c = no_step _ c.args.work.now c.args.i _ (λ b list. c.in-default.ensures.value b c.args.work.now.block list) c.is-alive.ensures
+returns-in-default g c = no_step _ c.args.work.now c.args.i _ (λ b list. c.in-default.ensures.value b c.args.work.now.block list) c.is_alive.ensures
 
 pub perform-requires : goal.perform-requires
 perform-requires g c = c.in-Some.ensures.placed
@@ -27,4 +27,4 @@ returns-then-not-perform g c =
 pub returns : goal.returns
 returns g c =
     half_done _ _ c.args.work.now c.in-Some.step c.args.i c.loop-disk.disk-index c.loop-disk.held _
-    (λ b list. c.in-Some.ensures.value b c.args.work.now.block list) (omega arith) c.loop-disk.invariant c.is-alive-2.ensures
+    (λ b list. c.in-Some.ensures.value b c.args.work.now.block list) (omega arith) c.loop-disk.invariant c.is_alive-2.ensures

@@ -10,16 +10,16 @@ loop-piece-init g c = (length-replicate {A = ℕ} 262144 0, length-replicate {A 
 
 pub returns-in-Dead : goal.returns-in-Dead
 returns-in-Dead g c =
-    scanned_dead _ _ _ c.args.pages _ (256 * c.loop-piece.piece) c.min.result _ _ c.scan-piece.new.block c.loop-piece.invariant.2 c.in-Dead.ensures
+    scanned_dead _ _ _ c.args.pages _ (256 * c.loop-piece.piece) c.min.result _ _ c.scan_piece.new.block c.loop-piece.invariant.2 c.in-Dead.ensures
 
 pub loop-piece-preserved : goal.loop-piece-preserved
 loop-piece-preserved g c =
     let n = blocks_front c.min.result c.loop-piece.first c.loop-piece.second c.loop-piece.invariant.0 c.loop-piece.invariant.1 (omega arith) in (
-      same_len_mid 0 (1024 * c.min.result - 0) c.loop-piece.first c.scan-piece.new.first c.scan-piece.auto.first ∙ c.loop-piece.invariant.0,
-      same_len_mid 0 (1024 * c.min.result - 0) c.loop-piece.second c.scan-piece.new.second c.scan-piece.auto.second ∙ c.loop-piece.invariant.1,
-      elim c.match-scan-piece.branch [
-        | in-Same w ↦ through_same _ _ _ _ _ _ _ _ _ c.loop-piece.block c.scan-piece.new.block (omega arith) (omega arith) w.highest_is c.loop-piece.invariant.2 w.in-Same.ensures
-        | in-Differs w ↦ through_differs _ _ _ _ _ _ _ _ _ _ c.loop-piece.block c.scan-piece.new.block (omega arith) w.highest_is c.loop-piece.invariant.2 w.in-Differs.ensures
+      same_len_mid 0 (1024 * c.min.result - 0) c.loop-piece.first c.scan_piece.new.first c.scan_piece.auto.first ∙ c.loop-piece.invariant.0,
+      same_len_mid 0 (1024 * c.min.result - 0) c.loop-piece.second c.scan_piece.new.second c.scan_piece.auto.second ∙ c.loop-piece.invariant.1,
+      elim c.match-scan_piece.branch [
+        | in-Same w ↦ through_same _ _ _ _ _ _ _ _ _ c.loop-piece.block c.scan_piece.new.block (omega arith) (omega arith) w.highest_is c.loop-piece.invariant.2 w.in-Same.ensures
+        | in-Differs w ↦ through_differs _ _ _ _ _ _ _ _ _ _ c.loop-piece.block c.scan_piece.new.block (omega arith) w.highest_is c.loop-piece.invariant.2 w.in-Differs.ensures
       ],
     )
 

@@ -3,9 +3,9 @@ use Rattle.engine.proofs.Scanning.{piece_same, piece_differs}
 use Rattle.engine.proofs.recover.scan_piece.Goals as goal
 
 pub returns-in-default : goal.returns-in-default
-returns-in-default g c = piece_same _ _ c.args.from _ c.read-both.new.first c.read-both.new.second _ c.args.block.now (search rules) c.read-both.ensures c.if-not-read-both.false c.in-default.ensures.value
+returns-in-default g c = piece_same _ _ c.args.from _ c.read_both.new.first c.read_both.new.second _ c.args.block.now (search rules) c.read_both.ensures c.if-not-read_both.false c.in-default.ensures.value
 
 pub returns : goal.returns
 returns g c =
-    piece_differs _ _ c.args.from _ c.in-Some.i c.read-both.new.first c.read-both.new.second _ c.args.block.now c.copy-from-slice.new.self (search rules) c.read-both.ensures
-    c.if-not-read-both.false c.in-Some.ensures.value (search rules)
+    piece_differs _ _ c.args.from _ c.in-Some.i c.read_both.new.first c.read_both.new.second _ c.args.block.now c.copy_from_slice.new.self (search rules) c.read_both.ensures
+    c.if-not-read_both.false c.in-Some.ensures.value (search rules)

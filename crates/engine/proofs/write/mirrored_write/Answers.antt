@@ -14,7 +14,7 @@ returns-in-default c = record {
 pub returns : goal.returns
 returns c = record {
   value = λ b e.
-      ap (λ (s : Side). Some (write_means c.args.work.now.block b (record { disk = s; block = c.in-Some.step.block; kind = Journal c.in-Some.step.kind }))) c.side-of.ensures
+      ap (λ (s : Side). Some (write_means c.args.work.now.block b (record { disk = s; block = c.in-Some.step.block; kind = Journal c.in-Some.step.kind }))) c.side_of.ensures
       ∙ step_written c.args.work.now b c.args.k c.in-Some.step (c.in-Some.ensures.value b c.args.work.now.block e);
   placed = c.in-Some.ensures.placed;
 }

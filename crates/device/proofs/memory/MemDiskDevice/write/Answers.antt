@@ -10,10 +10,10 @@ known_as b c l m e f = rw (e, f)
 
 pub returns : goal.returns
 returns c =
-    let n : length c.write-block.new.disk ≡ c.serves.new.self.bytes.len = c.write-block.auto.disk ∙ c.as-mut-slice.ensures.len in
-    let before : c.as-mut-slice.result.now ≡ vec_items c.args.self.now.bytes = c.as-mut-slice.ensures.value ∙ ap vec_items c.serves.ensures.bytes in (
+    let n : length c.write_block.new.disk ≡ c.serves.new.self.bytes.len = c.write_block.auto.disk ∙ c.as_mut_slice.ensures.len in
+    let before : c.as_mut_slice.result.now ≡ vec_items c.args.self.now.bytes = c.as_mut_slice.ensures.value ∙ ap vec_items c.serves.ensures.bytes in (
       c.serves.ensures.lived c.if-not-serves.false,
       known_as _ _ _ _
-          (ap whole (take_at c.write-block.new.disk _ _ n) ∙ (c.write-block.ensures ∙ ap (λ (x : List ℕ). set_page (whole x) c.args.block c.args.bytes.now) before))
+          (ap whole (take_at c.write_block.new.disk _ _ n) ∙ (c.write_block.ensures ∙ ap (λ (x : List ℕ). set_page (whole x) c.args.block c.args.bytes.now) before))
           (c.serves.ensures.alive ∙ c.if-not-serves.false),
     )

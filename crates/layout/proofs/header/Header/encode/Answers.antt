@@ -12,4 +12,4 @@ header_from : (xs ys : List ℕ) (flag : ℕ) (h : Bool) (n : ℕ) → xs ≡ em
 header_from xs ys flag h n e f p = p ∙ rw (e, f) (written h n)
 
 pub returns : goal.returns
-returns c = header_from c.clear.new.block c.put-u32.new.dst _ c.args.self.holds c.args.self.count c.clear.ensures c.flag.ensures c.put-u32.ensures
+returns c = header_from c.clear.new.block c.put_u32.new.dst _ c.args.self.holds c.args.self.count c.clear.ensures c.flag.ensures c.put_u32.ensures

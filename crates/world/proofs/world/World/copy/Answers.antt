@@ -10,6 +10,6 @@ invariant-of-result c = (
       copied _ _ _ _ c.args.self.now.work _ _ _ _ _
       (ap whole c.in-ok-copy.ensures.0) c.in-ok-copy.ensures.1
       (ap whole c.in-ok-copy-2.ensures.0) c.in-ok-copy-2.ensures.1
-      (c.in-ok-from-slice.ensures.items ∙ c.as-slice.ensures.value) q),
+      (c.in-ok-from_slice.ensures.items ∙ c.as_slice.ensures.value) q),
   tt,
 )

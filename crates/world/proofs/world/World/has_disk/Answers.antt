@@ -4,4 +4,4 @@ use Rattle.world.proofs.world.World.has_disk.Goals as goal
 
 pub returns : goal.returns
 unfolding together
-returns c = c.is-alive.ensures _ refl
+returns c = c.is_alive.ensures _ refl

@@ -10,28 +10,28 @@ use Rattle.world.proofs.world.World.power.Goals as goal
 
 pub invariant-of-self : goal.invariant-of-self
 unfolding together
-invariant-of-self c = (λ t. ∥∥₁_map (c.args.self.now.reached t) (λ q. power_none _ _ _ _ c.args.self.now.work _ _ _ _ (sym c.if-not-has-disk.ensures) c.in-default.ensures q), tt)
+invariant-of-self c = (λ t. ∥∥₁_map (c.args.self.now.reached t) (λ q. power_none _ _ _ _ c.args.self.now.work _ _ _ _ (sym c.if-not-has_disk.ensures) c.in-default.ensures q), tt)
 
-pub invariant-of-self-then-is-err : goal.invariant-of-self-then-is-err
+pub invariant-of-self-then-is_err : goal.invariant-of-self-then-is_err
 unfolding together
-invariant-of-self-then-is-err c =
+invariant-of-self-then-is_err c =
     let same : vec_items c.push-noted.new.self ≡ vec_items c.args.self.now.past = search rules in (
       λ t. ∥∥₁_map (c.args.self.now.reached t) (λ q.
-          stops_not _ _ c.args.self.now.work _ _ _ _ _ c.in-Some.work _ _ (sym c.if-not-has-disk.ensures) c.in-Some.ensures same q),
+          stops_not _ _ c.args.self.now.work _ _ _ _ _ c.in-Some.work _ _ (sym c.if-not-has_disk.ensures) c.in-Some.ensures same q),
       tt,
     )
 
 pub invariant-of-self-2 : goal.invariant-of-self-2
 unfolding together
 invariant-of-self-2 c =
-    let more : vec_items c.push-noted.new.self ≡ vec_items c.args.self.now.past ++ (c.cut-event.result ∷ []) = search rules in (
+    let more : vec_items c.push-noted.new.self ≡ vec_items c.args.self.now.past ++ (c.cut_event.result ∷ []) = search rules in (
       λ t. ∥∥₁_map (c.args.self.now.reached t) (λ q.
-          stops _ _ c.args.self.now.work _ _ _ _ _ c.in-Some.work _ _ _ c.cut-event.result c.if-not-self.false (sym c.if-not-has-disk.ensures) c.in-Some.ensures refl more c.cut-event.ensures.means q),
+          stops _ _ c.args.self.now.work _ _ _ _ _ c.in-Some.work _ _ _ c.cut_event.result c.if-not-self.false (sym c.if-not-has_disk.ensures) c.in-Some.ensures refl more c.cut_event.ensures.means q),
       tt,
     )
 
 pub returns : goal.returns
 returns c =
-    let more : vec_items c.push-noted.new.self ≡ vec_items c.args.self.now.past ++ (c.cut-event.result ∷ []) = search rules in
+    let more : vec_items c.push-noted.new.self ≡ vec_items c.args.self.now.past ++ (c.cut_event.result ∷ []) = search rules in
     let C : List Event → Type 0 = λ fs. Cuts c.args.self.now.under (vec_items c.args.self.now.past) fs in
-    record { gone = λ h. (refl, subst C (sym more) (c.cut-event.ensures.event (vec_items c.args.self.now.past))); refused = λ h. absurd (both_ways _ h refl) }
+    record { gone = λ h. (refl, subst C (sym more) (c.cut_event.ensures.event (vec_items c.args.self.now.past))); refused = λ h. absurd (both_ways _ h refl) }

@@ -7,12 +7,12 @@ use Rattle.world.proofs.world.World.power_again.Goals as goal
 
 pub invariant-of-self : goal.invariant-of-self
 unfolding together
-invariant-of-self c = (λ t. ∥∥₁_map (c.args.self.now.reached t) (λ q. power_none _ _ _ _ c.args.self.now.work _ _ _ _ (sym c.if-not-has-disk.ensures) c.in-default.ensures q), tt)
+invariant-of-self c = (λ t. ∥∥₁_map (c.args.self.now.reached t) (λ q. power_none _ _ _ _ c.args.self.now.work _ _ _ _ (sym c.if-not-has_disk.ensures) c.in-default.ensures q), tt)
 
 pub invariant-of-self-2 : goal.invariant-of-self-2
 unfolding together
 invariant-of-self-2 c = (
   λ t. ∥∥₁_map (c.args.self.now.reached t) (λ q.
-      stops_again _ _ c.args.self.now.work _ _ _ _ _ c.in-Some.work _ _ c.if-self.false (sym c.if-not-has-disk.ensures) c.in-Some.ensures refl q),
+      stops_again _ _ c.args.self.now.work _ _ _ _ _ c.in-Some.work _ _ c.if-self.false (sym c.if-not-has_disk.ensures) c.in-Some.ensures refl q),
   tt,
 )

@@ -3,4 +3,4 @@ use Rattle.world.proofs.Stated.{nothing_left, rises}
 use Rattle.world.proofs.world.World.recovered.Goals as goal
 
 pub invariant-of-self : goal.invariant-of-self
-invariant-of-self c = (λ t. ∥∥₁_map (c.args.self.now.reached t) (λ q. rises _ _ c.args.self.now.work _ _ _ _ _ c.if-self.false (nothing_left c.args.self.now.work _ c.if-not-is-idle.ensures) q), tt)
+invariant-of-self c = (λ t. ∥∥₁_map (c.args.self.now.reached t) (λ q. rises _ _ c.args.self.now.work _ _ _ _ _ c.if-self.false (nothing_left c.args.self.now.work _ c.if-not-is_idle.ensures) q), tt)

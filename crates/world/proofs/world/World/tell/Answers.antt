@@ -14,6 +14,6 @@ pub invariant-of-self-2 : goal.invariant-of-self-2
 invariant-of-self-2 c =
     let more : vec_items c.push-noted.new.self ≡ vec_items c.args.self.now.past ++ (Answered c.in-Some.under.call c.in-Some.under.answer ∷ []) = search rules in (
       λ t. ∥∥₁_map (c.args.self.now.reached t) (λ q.
-          tells _ _ c.args.self.now.work _ _ _ _ c.in-Some.under _ _ c.if-not-self.false (sym c.if-not-has-disk.ensures) (nothing_left c.args.self.now.work _ c.if-not-is-idle.ensures) c.in-Some.is more q),
+          tells _ _ c.args.self.now.work _ _ _ _ c.in-Some.under _ _ c.if-not-self.false (sym c.if-not-has_disk.ensures) (nothing_left c.args.self.now.work _ c.if-not-is_idle.ensures) c.in-Some.is more q),
       tt,
     )

@@ -8,7 +8,7 @@ pub invariant-of-self-then-not-perform : goal.invariant-of-self-then-not-perform
 unfolding together
 invariant-of-self-then-not-perform c = (
   λ t. ∥∥₁_map (c.args.self.now.reached t) (λ q.
-      wrote_none _ _ _ _ c.args.self.now.work _ c.in-Some.write _ _ _ _ (sym c.if-not-has-disk.ensures) c.in-Some.ensures.value c.if-not-perform.ensures q),
+      wrote_none _ _ _ _ c.args.self.now.work _ c.in-Some.write _ _ _ _ (sym c.if-not-has_disk.ensures) c.in-Some.ensures.value c.if-not-perform.ensures q),
   tt,
 )
 
@@ -16,6 +16,6 @@ pub invariant-of-self-2 : goal.invariant-of-self-2
 unfolding together
 invariant-of-self-2 c = (
   λ t. ∥∥₁_map (c.args.self.now.reached t) (λ q.
-      wrote_next _ _ _ _ c.args.self.now.work _ c.in-Some.write _ _ _ _ (sym c.if-not-has-disk.ensures) c.in-Some.ensures.value c.if-not-perform.ensures q),
+      wrote_next _ _ _ _ c.args.self.now.work _ c.in-Some.write _ _ _ _ (sym c.if-not-has_disk.ensures) c.in-Some.ensures.value c.if-not-perform.ensures q),
   tt,
 )
