@@ -8,11 +8,11 @@ returns-then-block-count c =
     let h : length (whole c.args.disk.now) ≤ c.args.block = omega (arith, c.count.ensures.value) in
     c.clear.ensures ∙ sym (nth_past (whole c.args.disk.now) c.args.block h)
 
-pub overflow-mul-block : goal.overflow-mul-block
-overflow-mul-block c = omega (arith, c.count.ensures.bound)
+pub overflow_mul-block : goal.overflow_mul-block
+overflow_mul-block c = omega (arith, c.count.ensures.bound)
 
-pub block-at-requires : goal.block_at-requires
-block-at-requires c = block_inside c.args.disk.now c.args.block (omega (arith, c.count.ensures.value))
+pub block_at-requires : goal.block_at-requires
+block_at-requires c = block_inside c.args.disk.now c.args.block (omega (arith, c.count.ensures.value))
 
 pub returns : goal.returns
 returns c =

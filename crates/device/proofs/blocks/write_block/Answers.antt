@@ -3,11 +3,11 @@ use Rattle.device.specs.Blocks.{whole}
 use Rattle.device.proofs.Whole.{set_past, whole_written, block_inside}
 use Rattle.device.proofs.blocks.write_block.Goals as goal
 
-pub overflow-mul-block : goal.overflow-mul-block
-overflow-mul-block c = omega (arith, c.count.ensures.bound)
+pub overflow_mul-block : goal.overflow_mul-block
+overflow_mul-block c = omega (arith, c.count.ensures.bound)
 
-pub put-block-requires : goal.put_block-requires
-put-block-requires c = (block_inside c.args.disk.now c.args.block (omega (arith, c.count.ensures.value)), c.requires)
+pub put_block-requires : goal.put_block-requires
+put_block-requires c = (block_inside c.args.disk.now c.args.block (omega (arith, c.count.ensures.value)), c.requires)
 
 pub returns-then-block-count : goal.returns-then-block-count
 returns-then-block-count c =

@@ -36,8 +36,8 @@ returns-in-Err-admit g c d is b agree len =
           c.idle-in-Err-admit.ensures.reply c.idle-in-Err-admit.ensures.plan c.idle-in-Err-admit.ensures.copy),
     )
 
-pub begin-logged-requires : goal.begin_logged-requires
-begin-logged-requires g c =
+pub begin_logged-requires : goal.begin_logged-requires
+begin_logged-requires g c =
     let f = c.in-Ok-admit.ensures in
     let e = c.in-Ok.ensures in (
       ap (early c.args.pages) f.1 ∙ f.0,
