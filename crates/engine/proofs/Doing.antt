@@ -9,6 +9,8 @@ use Rattle.model.specs.Disks.{Disk, On, on, View, wrote_one, wrote_from, alive}
 use Rattle.model.specs.Plain.{Put, put}
 use Rattle.device.specs.Blocks.{Shows}
 use Rattle.device.specs.Known.{Known}
+use denote.Enum.Bare.{sameb}
+use Rattle.device.specs.contracts.mirror.Side.{the_type}
 use Rattle.device.specs.declared.mirror.Side.{Side}
 use Rattle.device.specs.declared.mirror.Side.TheVariants.{First, Second}
 use Rattle.device.specs.Ran.{Ran, stays, writes, dies, Both, view, one_lives, OnOne, Fetched, Did, TellsLife, side_number}
@@ -23,6 +25,16 @@ use Rattle.engine.specs.declared.write.WriteKind.TheVariants.{Copied, Journal}
 use Rattle.engine.specs.declared.work.Work.{Work}
 use Rattle.engine.specs.Works.{written, write_means}
 use Rattle.engine.specs.Doing.{LogSame, CanDo, Readied, Performed}
+
+-- what `==` answers at the second disk
+pub is_second : (s : Side) → true ≡ sameb the_type s Second → s ≡ Second
+is_second First h = absurd (both_ways false refl (sym h))
+is_second Second h = refl
+
+pub is_first : (s : Side) → false ≡ sameb the_type s Second → s ≡ Second → ⊥
+is_first s h e =
+    let S : Side → Type 0 = λ x. false ≡ sameb the_type x Second in
+    both_ways false refl (subst S e h)
 
 -- on the way to the second disk what is put is held
 pub held_for_second : (w : Work) (b : List Page) (d : Both) (side : Side) (kind : WriteKind) (held : Page) (k : Kind) → side ≡ Second → kind ≡ Journal k →

@@ -3,12 +3,12 @@ use Rattle.wire.specs.Answers.{answered, answer_bytes}
 use Rattle.frames.proofs.Framed.{room, front, framed, unframed}
 use Rattle.frames.proofs.make_frame.Goals as goal
 
-pub returns-in-default : goal.returns-in-default
-returns-in-default c =
+pub returns-in_default : goal.returns-in_default
+returns-in_default c =
     let l : length c.args.frame.now ≡ 1029 = search rules in
     record {
       len = omega arith;
-      bytes = unframed (answer_bytes (answered c.args.answer)) _ (omega (arith, room c.args.frame.now l, c.in-default.ensures.0)) (ap (λ (x : List ℕ). take 4 x) c.put_u32.ensures);
+      bytes = unframed (answer_bytes (answered c.args.answer)) _ (omega (arith, room c.args.frame.now l, c.in_default.ensures.0)) (ap (λ (x : List ℕ). take 4 x) c.put_u32.ensures);
     }
 
 pub returns : goal.returns

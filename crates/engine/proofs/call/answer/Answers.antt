@@ -5,9 +5,9 @@ use Rattle.engine.proofs.Calling.{answered, died_answering, died_beginning}
 use Rattle.engine.proofs.Living.{answer_lives}
 use Rattle.engine.proofs.call.answer.Goals as goal
 
-pub returns-in-default : goal.returns-in-default
-returns-in-default g c =
-    let told = died_beginning _ _ c.args.pages (call_of c.args.bytes.now) c.begin.new.page c.in-default.ensures in
+pub returns-in_default : goal.returns-in_default
+returns-in_default g c =
+    let told = died_beginning _ _ c.args.pages (call_of c.args.bytes.now) c.begin.new.page c.in_default.ensures in
     record { told = told; lives = answer_lives _ _ c.args.pages (call_of c.args.bytes.now) c.begin.new.page None told }
 
 pub returns-then-not-finish : goal.returns-then-not-finish

@@ -25,7 +25,7 @@ returns-in-Err-admit g c d is b agree len =
     let f = c.in-Err-admit.ensures in
     let e = c.in-Ok.ensures in
     let call = meant c.in-Ok.call in
-    let ok : InBytes call = came_in_bytes c.args.bytes.now c.in-Ok.call (bytes_from c.args.bytes.now (λ i. omega (arith, c.type-inv.bytes i))) e in
+    let ok : InBytes call = came_in_bytes c.args.bytes.now c.in-Ok.call (bytes_from c.args.bytes.now (λ i. omega (arith, c.type_inv.bytes i))) e in
     let P : Call → Type 0 = λ x. TurnIs c.args.pages b x c.args.page.now c.idle-in-Err-admit.result in (
       d,
       is,
@@ -42,7 +42,7 @@ begin_logged-requires g c =
     let e = c.in-Ok.ensures in (
       ap (early c.args.pages) f.1 ∙ f.0,
       (
-        came_in_bytes c.args.bytes.now c.in-Ok-admit.call (bytes_from c.args.bytes.now (λ i. omega (arith, c.type-inv.bytes i))) (f.1 ∙ e),
+        came_in_bytes c.args.bytes.now c.in-Ok-admit.call (bytes_from c.args.bytes.now (λ i. omega (arith, c.type_inv.bytes i))) (f.1 ∙ e),
         logs_call c.in-Ok-admit.call c.in-Write.is,
       ),
     )

@@ -2,8 +2,8 @@ use Rattle.std.proofs.Common.{◌≡◌, refl, arith}
 use Rattle.engine.proofs.Stepping.{half_more, halfway_on, halfway_none, half_dead, half_done, no_step}
 use Rattle.engine.proofs.perform.put_step.Goals as goal
 
-pub returns-in-default : goal.returns-in-default
-returns-in-default g c = no_step _ c.args.work.now c.args.i _ (λ b list. c.in-default.ensures.value b c.args.work.now.block list) c.is_alive.ensures
+pub returns-in_default : goal.returns-in_default
+returns-in_default g c = no_step _ c.args.work.now c.args.i _ (λ b list. c.in_default.ensures.value b c.args.work.now.block list) c.is_alive.ensures
 
 pub perform-requires : goal.perform-requires
 perform-requires g c = c.in-Some.ensures.placed

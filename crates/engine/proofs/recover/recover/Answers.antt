@@ -4,9 +4,9 @@ use Rattle.engine.proofs.Recovering.{recovered, recovered_dead}
 use Rattle.engine.proofs.Living.{recovery_lives}
 use Rattle.engine.proofs.recover.recover.Goals as goal
 
-pub returns-in-default : goal.returns-in-default
-returns-in-default g c =
-    let done = recovered_dead _ _ c.args.pages c.in-default.ensures in
+pub returns-in_default : goal.returns-in_default
+returns-in_default g c =
+    let done = recovered_dead _ _ c.args.pages c.in_default.ensures in
     record { done = done; lives = recovery_lives _ _ c.args.pages _ done }
 
 pub returns-then-not-finish : goal.returns-then-not-finish

@@ -18,8 +18,8 @@ loop-piece-preserved g c =
       same_len_mid 0 (1024 * c.min.result - 0) c.loop-piece.first c.scan_piece.new.first c.scan_piece.auto.first ∙ c.loop-piece.invariant.0,
       same_len_mid 0 (1024 * c.min.result - 0) c.loop-piece.second c.scan_piece.new.second c.scan_piece.auto.second ∙ c.loop-piece.invariant.1,
       elim c.match-scan_piece.branch [
-        | in-Same w ↦ through_same _ _ _ _ _ _ _ _ _ c.loop-piece.block c.scan_piece.new.block (omega arith) (omega arith) w.highest_is c.loop-piece.invariant.2 w.in-Same.ensures
-        | in-Differs w ↦ through_differs _ _ _ _ _ _ _ _ _ _ c.loop-piece.block c.scan_piece.new.block (omega arith) w.highest_is c.loop-piece.invariant.2 w.in-Differs.ensures
+        | in-Same w ↦ through_same _ _ _ _ _ _ _ _ _ c.loop-piece.block c.scan_piece.new.block (omega arith) (omega arith) w.highest-is c.loop-piece.invariant.2 w.in-Same.ensures
+        | in-Differs w ↦ through_differs _ _ _ _ _ _ _ _ _ _ c.loop-piece.block c.scan_piece.new.block (omega arith) w.highest-is c.loop-piece.invariant.2 w.in-Differs.ensures
       ],
     )
 

@@ -5,9 +5,9 @@ use Rattle.engine.specs.Works.{write_means}
 use Rattle.engine.proofs.Writes.{step_written, none_written}
 use Rattle.engine.proofs.write.mirrored_write.Goals as goal
 
-pub returns-in-default : goal.returns-in-default
-returns-in-default c = record {
-  value = λ b e. none_written c.args.work.now b c.args.k (c.in-default.ensures.value b c.args.work.now.block e);
+pub returns-in_default : goal.returns-in_default
+returns-in_default c = record {
+  value = λ b e. none_written c.args.work.now b c.args.k (c.in_default.ensures.value b c.args.work.now.block e);
   placed = tt;
 }
 

@@ -9,7 +9,7 @@ pub invariant-of-self : goal.invariant-of-self
 unfolding together
 invariant-of-self c = (
   λ t. ∥∥₁_map (c.args.self.now.reached t) (λ q.
-      starts_none _ _ c.args.self.now.work _ _ _ _ _ (call_of c.as_slice.result.now) c.begin.new.page _ c.if-not-self.false (sym c.if-is_some.ensures) (sym c.if-not-has_disk.ensures) (nothing_left c.args.self.now.work _ c.if-not-is_idle.ensures) c.in-default.ensures q),
+      starts_none _ _ c.args.self.now.work _ _ _ _ _ (call_of c.as_slice.result.now) c.begin.new.page _ c.if-not-self.false (sym c.if-is_some.ensures) (sym c.if-not-has_disk.ensures) (nothing_left c.args.self.now.work _ c.if-not-is_idle.ensures) c.in_default.ensures q),
   tt,
 )
 

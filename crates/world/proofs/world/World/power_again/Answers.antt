@@ -7,7 +7,7 @@ use Rattle.world.proofs.world.World.power_again.Goals as goal
 
 pub invariant-of-self : goal.invariant-of-self
 unfolding together
-invariant-of-self c = (λ t. ∥∥₁_map (c.args.self.now.reached t) (λ q. power_none _ _ _ _ c.args.self.now.work _ _ _ _ (sym c.if-not-has_disk.ensures) c.in-default.ensures q), tt)
+invariant-of-self c = (λ t. ∥∥₁_map (c.args.self.now.reached t) (λ q. power_none _ _ _ _ c.args.self.now.work _ _ _ _ (sym c.if-not-has_disk.ensures) c.in_default.ensures q), tt)
 
 pub invariant-of-self-2 : goal.invariant-of-self-2
 unfolding together
