@@ -4,6 +4,6 @@ use Rattle.device.specs.Ran.{together}
 use Rattle.world.proofs.Stated.{read_on}
 use Rattle.world.proofs.world.World.overwrite.Goals as goal
 
-pub invariant-of-self-then-not-read : goal.invariant-of-self-then-not-read
+pub invariant_of-self-then-not-read : goal.invariant_of-self-then-not-read
 unfolding together
-invariant-of-self-then-not-read c = (λ t. ∥∥₁_map (c.args.self.now.reached t) (λ q. read_on _ _ _ _ c.args.self.now.work _ _ _ _ _ _ _ c.if-not-read.ensures q), tt)
+invariant_of-self-then-not-read c = record { reached = λ t. ∥∥₁_map (c.args.self.now.reached t) (λ q. read_on _ _ _ _ c.args.self.now.work _ _ _ _ _ _ _ c.if-not-read.ensures q) }

@@ -5,14 +5,13 @@ use Rattle.world.proofs.Steps.{power_none}
 use Rattle.world.proofs.Stated.{stops_again}
 use Rattle.world.proofs.world.World.power_again.Goals as goal
 
-pub invariant-of-self : goal.invariant-of-self
+pub invariant_of-self : goal.invariant_of-self
 unfolding together
-invariant-of-self c = (λ t. ∥∥₁_map (c.args.self.now.reached t) (λ q. power_none _ _ _ _ c.args.self.now.work _ _ _ _ (sym c.if-not-has_disk.ensures) c.in_default.ensures q), tt)
+invariant_of-self c = record { reached = λ t. ∥∥₁_map (c.args.self.now.reached t) (λ q. power_none _ _ _ _ c.args.self.now.work _ _ _ _ (sym c.if-not-has_disk.ensures) c.in_default.ensures q) }
 
-pub invariant-of-self-2 : goal.invariant-of-self-2
+pub invariant_of-self-2 : goal.invariant_of-self-2
 unfolding together
-invariant-of-self-2 c = (
-  λ t. ∥∥₁_map (c.args.self.now.reached t) (λ q.
-      stops_again _ _ c.args.self.now.work _ _ _ _ _ c.in-Some.work _ _ c.if-self.false (sym c.if-not-has_disk.ensures) c.in-Some.ensures refl q),
-  tt,
-)
+invariant_of-self-2 c = record {
+  reached = λ t. ∥∥₁_map (c.args.self.now.reached t) (λ q.
+      stops_again _ _ c.args.self.now.work _ _ _ _ _ c.in-Some.work _ _ c.if-self.false (sym c.if-not-has_disk.ensures) c.in-Some.ensures refl q);
+}
