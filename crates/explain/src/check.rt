@@ -8,7 +8,7 @@ use world::history::{Asked, Event};
 
 // Whether the bytes are a close.
 fn is_close(asked: &Asked) -> bool {
-    asked.as_slice() == b"\x02"
+    asked.as_slice() == b"\x02".as_slice()
 }
 
 // Whether what happened leaves a choice to the book.

@@ -1,5 +1,6 @@
 // A line that tells how far a search is, where standard error is a terminal.
 use every::explore::{Counts, Watch};
+use std::io::IsTerminal;
 
 // How many worlds are looked at between two lines.
 const STEP: u64 = 65536;
@@ -13,7 +14,7 @@ pub struct Watcher<'a> {
 
 impl Watcher<'_> {
     pub fn new<'a>(rt: &'a HostRuntime) -> Watcher<'a> {
-        let next = if libc::isatty(libc::STDERR_FILENO) == 1 {
+        let next = if rt.stderr().is_terminal() {
             Some(STEP)
         } else {
             None
