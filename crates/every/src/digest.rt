@@ -62,7 +62,7 @@ pub fn books(
             digests.push(Digest::START.book(&book))?;
         }
     }
-    digests.sort();
+    digests.sort_unstable();
     digests.dedup();
     Ok(digests)
 }
