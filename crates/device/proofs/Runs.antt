@@ -1,12 +1,11 @@
 -- Calls of one disk as steps of two: a write that was done, and a disk that was found dead.
-use Rattle.std.proofs.Common.{◌≡◌, ℕ, Bool, true, false, ◌&&◌, ◌||◌, ◌⊎◌, List, [], ◌∷◌, ◌++◌, Some, None, Option, sym, refl, ap, ◌∙◌, subst, inl, inr, arith}
+use Rattle.std.proofs.Common.{◌≡◌, ℕ, Bool, true, false, ◌||◌, List, [], ◌∷◌, ◌++◌, Some, None, Option, sym, refl, ap, ◌∙◌, subst, inl, inr, arith}
 use Rattle.std.proofs.lemmas.Bool.{both_ways}
-use Rattle.model.specs.Book.{Page, nth, set_page}
+use Rattle.model.specs.Book.{set_page}
 use Rattle.model.specs.Disks.{On, on, View, wrote_from, killed_from}
 use Rattle.model.specs.Plain.{Put}
-use Rattle.device.specs.Blocks.{Shows}
 use Rattle.device.specs.Known.{Known, living, dead, Written, Shown, Lives}
-use Rattle.device.specs.Ran.{Ran, stays, writes, dies, Both, view, one_lives, both_live, together, Did, OnOne, Fetched, FetchedBoth, TellsLife}
+use Rattle.device.specs.Ran.{Ran, stays, writes, dies, Both, together, Did, Fetched, FetchedBoth, TellsLife}
 
 -- one run after the other
 pub ran_more : {xs ys : List (On Put)} {d e f : View} → Ran xs d e → Ran ys e f → Ran (xs ++ ys) d f

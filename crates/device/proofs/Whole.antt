@@ -3,7 +3,7 @@ use Rattle.std.proofs.Common.{◌≡◌, ℕ, zero, suc, ◌+◌, ◌*◌, ◌/�
 use Rattle.std.proofs.lemmas.List.{drop-drop, length-drop}
 use Rattle.std.proofs.lemmas.Bool.{cases_lt}
 use Rattle.model.specs.Book.{Page, empty_page, nth, set_page}
-use Rattle.octets.specs.Words.{overwritten, part}
+use Rattle.octets.specs.Words.{overwritten}
 use Rattle.octets.proofs.Parts.{length_overwritten, part_written_same, part_written_below, drop_written_past, take_written_below, drop_written_below}
 use Rattle.device.specs.Blocks.{blocks, whole, block_of, Shows}
 

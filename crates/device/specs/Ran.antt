@@ -1,6 +1,6 @@
 -- Writes done one after the other on two disks, with deaths between any two. Definitions only.
-use Rattle.std.specs.Prelude.{◌≡◌, ℕ, Bool, true, false, ◌&&◌, ◌||◌, ◌⊎◌, List, [], ◌∷◌, Some, None, Option}
-use Rattle.model.specs.Book.{Page, nth}
+use Rattle.std.specs.Prelude.{◌≡◌, ℕ, Bool, true, ◌&&◌, ◌||◌, ◌⊎◌, List, [], ◌∷◌, Some, None, Option}
+use Rattle.model.specs.Book.{Page}
 use Rattle.model.specs.Disks.{On, View, wrote, killed}
 use Rattle.model.specs.Plain.{Put, put}
 use Rattle.device.specs.Blocks.{Shows}

@@ -1,15 +1,15 @@
 -- Calls on disks that agree: what is read is what they have, the answer is the book's, and the work is the
 -- model's.
-use Rattle.std.proofs.Common.{◌≡◌, ℕ, zero, suc, ◌+◌, ◌-◌, ◌*◌, ◌<◌, ◌≤◌, Bool, true, false, cond, eqb, ◌≢◌, ◌⊎◌, List, [], ◌∷◌, ◌++◌, length, take, drop, Some, None, Option, sym, refl, ap, ◌∙◌, subst, inl, inr, add-zero, suc-add, zero-add, add-sub_cancel, arith, Bor}
+use Rattle.std.proofs.Common.{◌≡◌, ℕ, zero, suc, ◌+◌, Bool, true, false, cond, eqb, ◌≢◌, ◌⊎◌, List, [], ◌∷◌, ◌++◌, length, Some, None, Option, sym, refl, ap, ◌∙◌, subst, inl, inr, suc-add, zero-add, arith, Bor}
 use Rattle.std.proofs.lemmas.Bool.{both_ways, cond-true, cond-false, eq-eqb, ne_eqb, eqb-true}
-use Rattle.model.specs.Numbers.{first_page, copies, page_size}
+use Rattle.model.specs.Numbers.{first_page, copies}
 use Rattle.model.specs.Book as book
 use Rattle.model.specs.Book.{Page, nth, bytes, Call, Limits, Book, Answer, turned, turned_by, good_fields, call_number, place, told, answer}
 use Rattle.model.specs.Disks.{On, View, killed_from}
 use Rattle.model.specs.Plain.{Put}
 use Rattle.model.specs.Promise.{from_block}
 use Rattle.mirror.specs.Mirror.{mirrored}
-use Rattle.device.specs.Blocks.{Shows, block_of}
+use Rattle.device.specs.Blocks.{block_of}
 use Rattle.device.specs.Ran.{Ran, stays, writes, dies, Both, view, one_lives, OnOne, Fetched}
 use Rattle.device.proofs.Runs.{ran_more}
 use Rattle.layout.specs.Reading.{log_holds, log_count}
@@ -33,7 +33,7 @@ use Rattle.engine.specs.declared.call.Reply.TheVariants.{Refused, Done, Page as 
 use Rattle.engine.specs.declared.call.Turn.{Turn}
 use Rattle.engine.specs.Works.{work_writes, copy_writes, both_writes}
 use Rattle.engine.specs.Doing.{LogSame, Copies, Finished}
-use Rattle.engine.specs.Calling.{limits, Agree, reply_means, Carries, Logs, KnowsList, TurnIs, ByTurn, Begun, ByLog, LogRead, ByReply, Answered}
+use Rattle.engine.specs.Calling.{limits, Agree, reply_means, Carries, Logs, KnowsList, TurnIs, Begun, LogRead, Answered}
 use Rattle.engine.proofs.Doing.{shown_block, ran_dead, both_dead}
 
 -- what one of them shows is what all have

@@ -1,11 +1,11 @@
 -- One write of a work, done on two disks of which all is known: what is made ready is what the model
 -- writes, also where it is read late, and where both disks are dead every write has nothing left to do.
-use Rattle.std.proofs.Common.{◌≡◌, ℕ, zero, suc, ◌+◌, ◌<◌, ◌≤◌, Bool, true, false, cond, ◌||◌, eqb, ◌⊎◌, List, [], ◌∷◌, ◌++◌, length, take, Some, None, Option, sym, refl, ap, ◌∙◌, subst, inl, inr, add-zero, arith}
+use Rattle.std.proofs.Common.{◌≡◌, ℕ, suc, ◌+◌, ◌<◌, ◌≤◌, Bool, true, false, cond, eqb, List, [], ◌∷◌, length, Option, sym, refl, ap, ◌∙◌, subst, inl, inr, add-zero, arith}
 use Rattle.std.proofs.lemmas.Bool.{both_ways, or_parts}
 use Rattle.std.proofs.lemmas.List.{take_all}
 use Rattle.model.specs.Numbers.{room}
 use Rattle.model.specs.Book.{Page, nth}
-use Rattle.model.specs.Disks.{Disk, On, on, View, wrote_one, wrote_from, alive}
+use Rattle.model.specs.Disks.{On, on, View, wrote_one, wrote_from, alive}
 use Rattle.model.specs.Plain.{Put, put}
 use Rattle.device.specs.Blocks.{Shows}
 use Rattle.device.specs.Known.{Known}
@@ -13,7 +13,7 @@ use denote.Enum.Bare.{sameb}
 use Rattle.device.specs.contracts.mirror.Side.{the_type}
 use Rattle.device.specs.declared.mirror.Side.{Side}
 use Rattle.device.specs.declared.mirror.Side.TheVariants.{First, Second}
-use Rattle.device.specs.Ran.{Ran, stays, writes, dies, Both, view, one_lives, OnOne, Fetched, Did, TellsLife, side_number}
+use Rattle.device.specs.Ran.{Ran, stays, writes, Both, view, one_lives, OnOne, Fetched, Did, TellsLife, side_number}
 use Rattle.device.proofs.Runs.{ran_more}
 use Rattle.journal.specs.Plans.{replays, ReadsLog, LogBlock, content}
 use Rattle.journal.specs.declared.plan.Plan.{Plan}
@@ -21,7 +21,7 @@ use Rattle.journal.specs.declared.plan.Kind.{Kind}
 use Rattle.journal.specs.declared.plan.Kind.TheVariants.{Header, List as Listing, Given, Logged, Empty}
 use Rattle.engine.specs.declared.write.Write.{Write}
 use Rattle.engine.specs.declared.write.WriteKind.{WriteKind}
-use Rattle.engine.specs.declared.write.WriteKind.TheVariants.{Copied, Journal}
+use Rattle.engine.specs.declared.write.WriteKind.TheVariants.{Journal}
 use Rattle.engine.specs.declared.work.Work.{Work}
 use Rattle.engine.specs.Works.{written, write_means}
 use Rattle.engine.specs.Doing.{LogSame, CanDo, Readied, Performed}

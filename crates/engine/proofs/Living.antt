@@ -1,17 +1,17 @@
 -- Runs are parts of lives: writes done one after the other, with deaths between, lead from a world that can
 -- be reached to another, and so does a whole call.
-use Rattle.std.proofs.Common.{◌≡◌, ℕ, suc, ◌+◌, ◌<◌, Bool, true, false, cond, ◌||◌, eqb, ◌⊎◌, List, [], ◌∷◌, ◌++◌, length, Some, None, Option, sym, refl, ap, ◌∙◌, subst, inl, inr, append-nil, arith}
+use Rattle.std.proofs.Common.{◌≡◌, ℕ, suc, ◌+◌, ◌<◌, Bool, true, false, cond, ◌||◌, eqb, List, [], ◌∷◌, ◌++◌, length, Some, None, Option, sym, refl, ap, ◌∙◌, subst, inl, inr, append-nil, arith}
 use Rattle.std.proofs.lemmas.Bool.{both_ways, or_cases, or_parts, or_left, or_right}
 use Rattle.model.specs.Numbers.{first_page, copies}
-use Rattle.model.specs.Book.{Page, nth, Call, Limits, Book, answer}
-use Rattle.model.specs.Disks.{Disk, On, View, World, Happening, was_told, Under, Lived, Fallen, Fit, cut, wrote, wrote_one, wrote_all, killed, killed_from, alive, seen}
+use Rattle.model.specs.Book.{Page, nth, Call, Limits, answer}
+use Rattle.model.specs.Disks.{On, View, World, Happening, was_told, Under, Lived, Fallen, Fit, cut, wrote, wrote_one, wrote_all, killed_from, alive, seen}
 use Rattle.model.specs.Disks.Lived.{begins, one_written, answered, dies, power, power_again, mended}
 use Rattle.model.specs.Plain.{Put, put, plain}
-use Rattle.model.specs.Promise.{Right, Explains, all}
+use Rattle.model.specs.Promise.{Right, all}
 use Rattle.model.specs.Statements.{GoodSize, AllLive}
 use Rattle.model.proofs.Lists.{length_set_page}
 use Rattle.mirror.specs.Mirror.{mirrored, source}
-use Rattle.mirror.proofs.Each.{Each, Has, each_wrote, each_killed, alive_wrote, source_is}
+use Rattle.mirror.proofs.Each.{Each, each_wrote, each_killed, alive_wrote, source_is}
 use Rattle.promise.specs.Register.{register, recovery_writes}
 use Rattle.promise.proofs.Right.{at_rest, is_right, fallen_same}
 use Rattle.promise.proofs.Moments.{log_same}
@@ -21,10 +21,10 @@ use Rattle.device.specs.Ran as ran
 use Rattle.device.specs.Ran.{Ran, stays, writes, Both, view, one_lives}
 use Rattle.journal.specs.Journal.{holds, book_of, puts_of}
 use Rattle.engine.specs.declared.call.Reply.{Reply}
-use Rattle.engine.specs.Calling.{limits, Agree, reply_means, Answered, ByReply}
+use Rattle.engine.specs.Calling.{limits, Agree, reply_means, Answered}
 use Rattle.engine.specs.Doing.{LogSame}
 use Rattle.engine.specs.Recovering.{source_of, OfPages, LogAgrees, Recovered}
-use Rattle.engine.specs.Living.{resting, Reached, Explained, ByLife, AnswerLives, RecoveryLives, StoppedCallLives, StoppedRecoveryLives}
+use Rattle.engine.specs.Living.{resting, Reached, Explained, AnswerLives, RecoveryLives, StoppedCallLives, StoppedRecoveryLives}
 
 abbrev id : List Page → List Page
 id b = b

@@ -1,10 +1,10 @@
 -- What a work writes leaves the log as it was, on every disk that lives: a close and a recovery write the
 -- header, the pages, and a block copied from the disk that is gone by.
-use Rattle.std.proofs.Common.{◌≡◌, ℕ, zero, suc, ◌+◌, ◌<◌, ◌≤◌, Bool, true, false, cond, eqb, ◌≢◌, ◌⊎◌, List, [], ◌∷◌, ◌++◌, length, take, sym, refl, ap, ◌∙◌, subst, inl, inr, arith}
+use Rattle.std.proofs.Common.{◌≡◌, ℕ, zero, suc, ◌+◌, ◌<◌, ◌≤◌, Bool, true, false, cond, eqb, ◌⊎◌, List, [], ◌∷◌, ◌++◌, length, take, sym, refl, ap, ◌∙◌, inl, inr, arith}
 use Rattle.std.proofs.lemmas.Bool.{both_ways, cases_eq, cases_lt}
 use Rattle.model.specs.Numbers.{room, first_page, copies}
-use Rattle.model.specs.Book.{Page, nth, set_page}
-use Rattle.model.specs.Disks.{On, on, View, wrote_one, wrote_from, killed_from}
+use Rattle.model.specs.Book.{Page, nth}
+use Rattle.model.specs.Disks.{On, View, wrote_one, wrote_from, killed_from}
 use Rattle.model.specs.Plain.{Put, put}
 use Rattle.model.proofs.Lists.{nth_set_same, nth_set_other}
 use Rattle.mirror.specs.Mirror.{numbers, on_each, mirrored}

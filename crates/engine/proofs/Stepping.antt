@@ -1,31 +1,25 @@
 -- The steps of a work, one after the other, each on the first disk and then on the second: what was done of
 -- them is what the model writes, and pages of the log can be read at every step, since no step of a close or
 -- of recovery changes the log.
-use Rattle.std.proofs.Common.{◌≡◌, ℕ, zero, suc, ◌+◌, ◌<◌, ◌≤◌, Bool, true, false, cond, eqb, ◌≢◌, ◌⊎◌, List, [], ◌∷◌, ◌++◌, length, get_or, take, drop, Some, None, Option, sym, refl, ap, ◌∙◌, subst, inl, inr, add-one, arith}
+use Rattle.std.proofs.Common.{◌≡◌, ℕ, zero, suc, ◌+◌, ◌<◌, ◌≤◌, Bool, true, false, List, [], ◌∷◌, ◌++◌, length, get_or, take, drop, Some, None, Option, sym, refl, ap, ◌∙◌, subst, inr, add-one, arith}
 use Rattle.std.specs.List.{slice_get as item}
-use Rattle.std.proofs.lemmas.Bool.{both_ways, cases_eq, cases_lt}
 use Rattle.std.proofs.lemmas.List.{take-append-drop, take_all}
-use Rattle.model.specs.Numbers.{room, first_page, copies}
-use Rattle.model.specs.Book.{Page, nth, set_page}
-use Rattle.model.specs.Disks.{Disk, On, on, View, wrote_one, wrote_from, killed_from, alive}
-use Rattle.model.specs.Plain.{Put, put}
-use Rattle.model.proofs.Lists.{nth_set_same, nth_set_other}
+use Rattle.model.specs.Numbers.{copies}
+use Rattle.model.specs.Book.{Page, nth}
+use Rattle.model.specs.Disks.{On, on}
+use Rattle.model.specs.Plain.{Put}
 use Rattle.mirror.specs.Mirror.{numbers, on_each, mirrored}
-use Rattle.device.specs.Known.{Known}
 use Rattle.device.specs.declared.mirror.Side.{Side}
 use Rattle.device.specs.declared.mirror.Side.TheVariants.{First, Second}
-use Rattle.device.specs.Ran.{Ran, stays, writes, dies, Both, view, one_lives, Did, TellsLife}
+use Rattle.device.specs.Ran.{Ran, stays, Both, view, one_lives, TellsLife}
 use Rattle.device.proofs.Runs.{ran_more}
-use Rattle.journal.specs.Journal.{entries_from, header_put}
-use Rattle.journal.specs.Plans.{replays, content, step_put, plan_puts}
-use Rattle.journal.specs.declared.plan.Plan.{Plan}
-use Rattle.journal.specs.declared.plan.Plan.TheVariants.{Nothing, Write as Log-write, Close, Replay, Make}
+use Rattle.journal.specs.Plans.{replays, content, step_put}
 use Rattle.journal.specs.declared.plan.Step.{Step}
 use Rattle.engine.specs.declared.write.Write.{Write}
 use Rattle.engine.specs.declared.write.WriteKind.TheVariants.{Copied, Journal}
 use Rattle.engine.specs.declared.work.Work.{Work}
-use Rattle.engine.specs.Works.{written, write_means, copy_writes, both_writes, work_writes}
-use Rattle.engine.specs.Doing.{LogSame, CanDo, Performed, one_of, steps_of, Halfway, Stepped, PutSome, PutAll, Copies, Finished}
+use Rattle.engine.specs.Works.{copy_writes, both_writes}
+use Rattle.engine.specs.Doing.{LogSame, Performed, one_of, steps_of, Halfway, Stepped, PutSome, PutAll, Copies, Finished}
 use Rattle.engine.proofs.Doing.{ran_dead, both_dead}
 use Rattle.engine.proofs.LogKept.{ran_keeps, keep_take, keep_mirrored, replay_keeps}
 

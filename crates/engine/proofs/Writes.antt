@@ -1,18 +1,15 @@
 -- The writes of a work by their number.
-use Rattle.std.proofs.Common.{◌≡◌, ℕ, zero, suc, ◌+◌, ◌*◌, ◌/◌, ◌%◌, ◌<◌, ◌≤◌, true, false, cond, eqb, List, [], ◌∷◌, ◌++◌, length, is_some, Some, None, Option, sym, refl, ap, ◌∙◌, arith, length-append}
+use Rattle.std.proofs.Common.{◌≡◌, ℕ, zero, suc, ◌+◌, ◌*◌, ◌/◌, ◌%◌, true, false, List, ◌++◌, length, is_some, Some, None, Option, sym, refl, ap, ◌∙◌, arith}
 use Rattle.std.specs.List.{slice_get as item}
 use Rattle.std.specs.Option.{option_map}
 use Rattle.std.proofs.lemmas.Bool.{both_ways}
 use Rattle.model.specs.Numbers.{copies}
 use Rattle.model.specs.Book.{Page}
-use Rattle.model.specs.Disks.{On, on}
-use Rattle.model.specs.Plain.{Put}
-use Rattle.mirror.specs.Mirror.{mirrored}
+use Rattle.model.specs.Disks.{on}
 use Rattle.mirror.proofs.Numbered.{mirrored_item, length_mirrored}
 use Rattle.device.specs.Ran.{side_number}
 use Rattle.journal.specs.Plans.{step_put, plan_puts}
 use Rattle.journal.specs.declared.plan.Step.{Step}
-use Rattle.engine.specs.declared.write.Write.{Write}
 use Rattle.engine.specs.declared.write.WriteKind.TheVariants.{Journal}
 use Rattle.engine.specs.declared.work.Work.{Work}
 use Rattle.engine.specs.Works.{side_at, write_means, copy_writes, both_writes, work_writes}

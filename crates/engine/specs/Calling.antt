@@ -3,7 +3,7 @@
 -- Each statement is for disks d whose living ones all have the blocks b: at rest they do. The answer is the
 -- book's, and what is written is the model's list for b, whichever disk is found dead at whichever read or
 -- write.
-use Rattle.std.specs.Prelude.{◌≡◌, ℕ, ◌+◌, Bool, true, false, ◌⊎◌, List, [], length, Some, None, Option}
+use Rattle.std.specs.Prelude.{◌≡◌, ℕ, ◌+◌, true, false, ◌⊎◌, List, [], length, Some, None, Option}
 use Rattle.model.specs.Numbers.{first_page, copies, page_size}
 use Rattle.model.specs.Book as book
 use Rattle.model.specs.Book.{Page, nth, Call, Limits, answer}
@@ -12,7 +12,6 @@ use Rattle.mirror.specs.Mirror.{mirrored}
 use Rattle.device.specs.Ran.{Ran, Both, view, one_lives}
 use Rattle.layout.specs.declared.log.Log.{Log}
 use Rattle.wire.specs.Answers.{refusal_number, refusal_place}
-use Rattle.wire.specs.Calls.{call_of}
 use Rattle.journal.specs.Journal.{holds, count, book_of, puts_of}
 use Rattle.journal.specs.declared.plan.Plan.TheVariants.{Nothing}
 use Rattle.engine.specs.declared.work.Work.{Work}

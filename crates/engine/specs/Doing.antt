@@ -3,11 +3,11 @@
 -- Each statement is for any disks d and any b, the logical disk as it was when the work began: the disks
 -- afterwards are reached from d by the model's writes, in order, with deaths before, between and after
 -- them. Where pages of the log are read late, the living disks still have the log of b.
-use Rattle.std.specs.Prelude.{◌≡◌, ℕ, ◌+◌, ◌<◌, Bool, true, false, List, [], ◌∷◌, ◌++◌, take, Some, None, Option}
+use Rattle.std.specs.Prelude.{◌≡◌, ℕ, ◌+◌, ◌<◌, Bool, true, false, List, [], ◌∷◌, take, Some, None, Option}
 use Rattle.std.specs.List.{slice_get as item}
 use Rattle.model.specs.Numbers.{room, copies}
 use Rattle.model.specs.Book.{Page, nth}
-use Rattle.model.specs.Disks.{On, on, View}
+use Rattle.model.specs.Disks.{on, View}
 use Rattle.model.specs.Plain.{Put}
 use Rattle.device.specs.declared.mirror.Side.{Side}
 use Rattle.device.specs.declared.mirror.Side.TheVariants.{First, Second}

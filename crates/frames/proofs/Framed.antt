@@ -1,5 +1,5 @@
 -- The front of a frame is a length in four bytes, and then so many bytes.
-use Rattle.std.proofs.Common.{◌≡◌, ℕ, ◌+◌, ◌-◌, ◌<◌, ◌≤◌, List, [], ◌∷◌, ◌++◌, length, take, drop, refl, ap, ◌∙◌, subst, arith}
+use Rattle.std.proofs.Common.{◌≡◌, ℕ, ◌+◌, ◌-◌, ◌<◌, ◌≤◌, List, ◌++◌, length, take, drop, ap, ◌∙◌, subst, arith}
 use Rattle.std.proofs.lemmas.List.{append_assoc, take_at, drop_at, length-drop, length-take-le}
 use Rattle.octets.specs.Words.{le4, overwritten}
 use Rattle.frames.specs.Framed.{Framed}

@@ -1,13 +1,12 @@
 -- Admission in the book's words: the refusals are the book's, and an admitted call's plan puts what the
 -- journal says.
-use Rattle.std.proofs.Common.{◌≡◌, ℕ, suc, ◌+◌, ◌<◌, Bool, true, false, cond, ◌&&◌, eqb, ltb, List, [], ◌∷◌, ◌++◌, length, sym, refl, ap, ◌∙◌}
+use Rattle.std.proofs.Common.{◌≡◌, ℕ, Bool, true, false, cond, ◌&&◌, eqb, ltb, List, length, sym, refl}
 use Rattle.model.specs.Numbers.{room}
-use Rattle.model.specs.Book.{Page, nth, call_number, good_fields, turned_by, Call, read, write, close, size, garbled, Limits, Book, turned}
-use Rattle.model.specs.Promise.{thin}
-use Rattle.journal.specs.Journal.{holds, count, entries_from, header_put, recovery, call_puts}
+use Rattle.model.specs.Book.{Page, call_number, good_fields, turned_by, read, write, close, size, garbled}
+use Rattle.journal.specs.Journal.{holds, count, entries_from, recovery, call_puts}
 use Rattle.journal.specs.Plans.{plan_puts}
 use Rattle.journal.specs.declared.plan.Plan.TheVariants.{Write, Close, Replay}
-use Rattle.journal.specs.Admission.{early, late, RefusalsAre, InBytes}
+use Rattle.journal.specs.Admission.{RefusalsAre}
 
 and_true : (b : Bool) → (b && true) ≡ b
 and_true true = refl

@@ -1,5 +1,5 @@
 -- The steps of a plan by their number: how many there are, and which is the i-th of a replay and of making.
-use Rattle.std.proofs.Common.{◌≡◌, ℕ, zero, suc, ◌+◌, ◌<◌, ◌≤◌, List, [], ◌∷◌, ◌++◌, length, Some, None, sym, refl, ap, ◌∙◌, add-zero, zero-add, arith, length-append}
+use Rattle.std.proofs.Common.{◌≡◌, ℕ, zero, suc, ◌+◌, ◌<◌, ◌≤◌, List, [], ◌∷◌, ◌++◌, length, Some, None, refl, ap, ◌∙◌, add-zero, zero-add, arith}
 use Rattle.std.specs.List.{slice_get as item}
 use Rattle.model.specs.Book.{Page, empty_page}
 use Rattle.model.specs.Plain.{Put}

@@ -1,9 +1,9 @@
 -- The writes of two replicas by their number: each item on the first and then on the second.
-use Rattle.std.proofs.Common.{◌≡◌, ℕ, zero, suc, ◌+◌, ◌*◌, ◌/◌, ◌%◌, List, [], ◌∷◌, length, refl, ap, ◌∙◌, arith}
+use Rattle.std.proofs.Common.{◌≡◌, ℕ, zero, suc, ◌*◌, ◌/◌, ◌%◌, List, [], ◌∷◌, length, refl, ap, ◌∙◌, arith}
 use Rattle.std.specs.List.{slice_get as item}
 use Rattle.std.specs.Option.{option_map}
 use Rattle.model.specs.Numbers.{copies}
-use Rattle.model.specs.Disks.{On, on}
+use Rattle.model.specs.Disks.{on}
 use Rattle.mirror.specs.Mirror.{numbers, on_each, mirrored}
 
 -- the k-th write is item k / 2 on disk k % 2

@@ -1,6 +1,6 @@
 -- Several replicas as one disk: in which order blocks go to them, and how they are made the same after
 -- power went. What a block means is not known here. Definitions only.
-use Rattle.std.specs.Prelude.{ℕ, zero, suc, Bool, cond, List, [], ◌∷◌, ◌++◌}
+use Rattle.std.specs.Prelude.{ℕ, zero, suc, cond, List, [], ◌∷◌, ◌++◌}
 use Rattle.model.specs.Book.{Page}
 use Rattle.model.specs.Disks.{On, on, View}
 use Rattle.model.specs.Plain.{Put}

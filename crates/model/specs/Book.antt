@@ -2,7 +2,7 @@
 --
 -- This is the register as a clerk sees it, with no disk in it. A write waits until it is closed; a close
 -- makes all that waits hold at once; a read has what holds. What the disks do is explained by such a book.
-use Rattle.std.specs.Prelude.{ℕ, zero, suc, Bool, true, false, cond, ◌&&◌, ◌||◌, List, [], ◌∷◌, length, ◌==◌, nat_lt}
+use Rattle.std.specs.Prelude.{ℕ, zero, suc, Bool, true, cond, ◌&&◌, ◌||◌, List, [], ◌∷◌, length, ◌==◌, nat_lt}
 use Rattle.model.specs.Numbers.{page_size, room}
 
 -- a page is a list of bytes; a good one has page-size of them

@@ -1,7 +1,7 @@
 -- What is promised of a program over disks: whatever happens, a book explains it. Definitions only.
 use Rattle.std.specs.Prelude.{◌≡◌, ℕ, zero, suc, ◌+◌, ◌≤◌, Bool, true, false, cond, ◌&&◌, List, [], ◌∷◌, ◌==◌, nat_lt}
 use Rattle.model.specs.Numbers.{most_pages}
-use Rattle.model.specs.Book.{Page, bytes, Call, read, write, close, size, garbled, Limits, Book, new_book, answer, after, dropped}
+use Rattle.model.specs.Book.{Page, Call, Limits, Book, new_book, answer, after, dropped}
 use Rattle.model.specs.Disks.{Medium, Program, Happening, was_told, was_cut, power_went, World, Lived}
 
 -- a number of pages from 1 to most-pages, and the calls that a stage can do

@@ -1,15 +1,14 @@
 -- Laws of byte strings that were partly overwritten: what stands where, and that a number of four bytes is
 -- read back. The first two lemmas turn the checker's own terms for parts of slices into the words of specs/.
-use Rattle.std.proofs.Common.{◌≡◌, ℕ, zero, suc, ◌+◌, ◌-◌, ◌*◌, ◌/◌, ◌%◌, ◌<◌, ◌≤◌, true, ◌⊎◌, List, [], ◌∷◌, ◌++◌, length, get_or, take, drop, set, replicate, sym, refl, ap, ◌∙◌, subst, inl, inr, add_assoc, arith, rules}
+use Rattle.std.proofs.Common.{◌≡◌, ℕ, zero, suc, ◌+◌, ◌-◌, ◌*◌, ◌/◌, ◌%◌, ◌<◌, ◌≤◌, true, List, [], ◌∷◌, ◌++◌, length, get_or, take, drop, set, replicate, sym, refl, ap, ◌∙◌, inl, inr, add_assoc, arith, rules}
 use native.Mathlib.Nat.{add-sub_cancel_left, div-div-eq-div-mul}
 use borrow.Rule.Slice.PartMut.{put_mid}
-use Rattle.std.proofs.lemmas.List.{drop-drop, same_lists, places, append_assoc, take_at, drop_at, drop-take, drop-append-le, length-take-le, length-replicate}
+use Rattle.std.proofs.lemmas.List.{drop-drop, same_lists, places, take_at, drop_at, drop-take, drop-append-le, length-take-le, length-replicate}
 use Rattle.std.proofs.lemmas.Slice.{take-put_mid_below, drop-put_mid}
-use Rattle.std.proofs.lemmas.List.Edits.{sets-eq}
-use Rattle.std.proofs.lemmas.Bool.{cases_eq, lt-ltb}
+use Rattle.std.proofs.lemmas.Bool.{lt-ltb}
 use Rattle.std.proofs.lemmas.Nat.{div-add-mod'}
 use Rattle.model.specs.Book.{many, empty_page, bytes}
-use Rattle.octets.specs.Words.{overwritten, part, le4, num4, ReadsBack, KeepsOthers}
+use Rattle.octets.specs.Words.{overwritten, part, le4, ReadsBack, KeepsOthers}
 
 pub part_is : (xs : List ℕ) (at n : ℕ) → take (at + n - at) (drop at xs) ≡ part xs at n
 part_is xs at n = rw add-sub_cancel_left

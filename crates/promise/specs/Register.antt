@@ -2,7 +2,7 @@
 --
 -- Count and list are read off the disks at each call; nothing is kept in memory between calls, so nothing
 -- in memory can disagree with the disks.
-use Rattle.std.specs.Prelude.{ℕ, ◌+◌, List, [], ◌∷◌, ◌++◌, length}
+use Rattle.std.specs.Prelude.{◌+◌, List, [], ◌∷◌, ◌++◌, length}
 use Rattle.model.specs.Numbers.{first_page, copies}
 use Rattle.model.specs.Book.{answer}
 use Rattle.model.specs.Disks as list

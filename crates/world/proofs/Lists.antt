@@ -1,5 +1,5 @@
 -- The writes of a work as a list of which the first are done: what is next, and what is then held.
-use Rattle.std.proofs.Common.{◌≡◌, ℕ, zero, suc, ◌+◌, ◌<◌, Bool, true, false, List, [], ◌∷◌, ◌++◌, drop, Some, None, Option, sym, refl, ap, ◌∙◌, subst, add-one, arith}
+use Rattle.std.proofs.Common.{◌≡◌, ℕ, zero, suc, Bool, true, false, List, [], ◌∷◌, ◌++◌, drop, Some, None, Option, sym, refl, ap, subst, arith}
 use Rattle.std.specs.List.{slice_get as item}
 use Rattle.std.proofs.lemmas.Bool.{both_ways}
 use Rattle.model.specs.Numbers.{copies}

@@ -1,6 +1,6 @@
 -- The same steps, in the terms in which the code has them: what happened as a vector that grows at its end,
 -- the call under way as an option, and tests in place of equations.
-use Rattle.std.proofs.Common.{◌≡◌, ℕ, ◌+◌, ◌*◌, ◌/◌, Bool, true, false, not, leb, List, [], ◌∷◌, ◌++◌, length, drop, is_some, Some, None, Option, sym, refl, ap, ◌∙◌, subst, arith, drop_of_length-le}
+use Rattle.std.proofs.Common.{◌≡◌, ℕ, ◌*◌, ◌/◌, Bool, true, false, not, leb, List, [], ◌∷◌, ◌++◌, length, drop, is_some, Some, None, Option, sym, refl, ap, ◌∙◌, subst, arith, drop_of_length-le}
 use lib.Seq.{drop-length}
 use Rattle.std.proofs.lemmas.Bool.{both_ways, leb-true}
 use Rattle.model.specs.Book.{Page, Call}

@@ -1,10 +1,10 @@
 -- Steps of a world in memory as steps of the model, each by the model's step of that name.
-use Rattle.std.proofs.Common.{◌≡◌, ℕ, zero, suc, ◌+◌, ◌<◌, Bool, true, false, ◌||◌, ◌⊎◌, List, [], ◌∷◌, ◌++◌, length, drop, Some, None, Option, sym, refl, ap, ◌∙◌, subst, inl, inr, add-one, arith}
+use Rattle.std.proofs.Common.{◌≡◌, ℕ, ◌+◌, Bool, true, false, ◌||◌, ◌⊎◌, List, [], ◌∷◌, ◌++◌, drop, Some, None, Option, sym, refl, ap, ◌∙◌, subst, inl, inr, add-one}
 use Rattle.std.specs.List.{slice_get as item}
 use Rattle.std.proofs.lemmas.Bool.{both_ways, or_cases, or_left, or_right}
-use Rattle.model.specs.Numbers.{first_page, copies}
+use Rattle.model.specs.Numbers.{copies}
 use Rattle.model.specs.Book.{Page, nth, Call, Answer, answer}
-use Rattle.model.specs.Disks.{On, View, Happening, was_told, Under, World, Lived, alive, killed_from, seen, cut}
+use Rattle.model.specs.Disks.{On, Happening, was_told, Under, World, Lived, alive, killed_from, seen, cut}
 use Rattle.model.specs.Disks.Lived.{begins, answered, power, power_again, mended}
 use Rattle.model.specs.Plain.{Put, plain}
 use Rattle.model.specs.Promise.{Right, Leads, all}
@@ -34,7 +34,7 @@ use Rattle.engine.specs.Living as living
 use Rattle.engine.specs.Living.{Explained, MakingLives}
 use Rattle.engine.proofs.LogKept.{AllKeep, ran_keeps, keep_mirrored, replay_keeps}
 use Rattle.engine.proofs.Living.{ran_alive, view_alive, busy, run_lives, rested, explained, died_lives, fallen_none, log_agrees, of_pages}
-use Rattle.world.specs.Reached.{HeldFor, GoesBy, LivedBy, Reached}
+use Rattle.world.specs.Reached.{HeldFor, GoesBy, Reached}
 use Rattle.world.proofs.Lists.{some_same, drop_item, on_first, pair_held, first_held, keep_item}
 
 back_to : {A : Type 0} (P : A → Type 0) {x y : A} → x ≡ y → P y → P x

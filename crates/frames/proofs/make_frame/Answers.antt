@@ -1,4 +1,4 @@
-use Rattle.std.proofs.Common.{◌≡◌, ℕ, ◌<◌, ◌≤◌, List, length, take, refl, ap, arith, rules}
+use Rattle.std.proofs.Common.{◌≡◌, ℕ, List, length, take, refl, ap, arith, rules}
 use Rattle.wire.specs.Answers.{answered, answer_bytes}
 use Rattle.frames.proofs.Framed.{room, front, framed, unframed}
 use Rattle.frames.proofs.make_frame.Goals as goal

@@ -1,4 +1,4 @@
-use Rattle.std.proofs.Common.{◌≡◌, ◌<◌, ◌≤◌, length, sym, ap, ◌∙◌, arith}
+use Rattle.std.proofs.Common.{◌≤◌, length, sym, ◌∙◌, arith}
 use Rattle.device.specs.Blocks.{whole}
 use Rattle.device.proofs.Whole.{nth_past, nth_whole, block_inside}
 use Rattle.device.proofs.blocks.read_block.Goals as goal

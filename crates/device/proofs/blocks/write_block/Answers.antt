@@ -1,4 +1,4 @@
-use Rattle.std.proofs.Common.{◌≡◌, ◌<◌, ◌≤◌, length, sym, ap, ◌∙◌, arith}
+use Rattle.std.proofs.Common.{◌≤◌, length, sym, arith}
 use Rattle.device.specs.Blocks.{whole}
 use Rattle.device.proofs.Whole.{set_past, whole_written, block_inside}
 use Rattle.device.proofs.blocks.write_block.Goals as goal

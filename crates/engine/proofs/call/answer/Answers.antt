@@ -1,6 +1,5 @@
-use Rattle.std.proofs.Common.{List, Some, None}
+use Rattle.std.proofs.Common.{Some, None}
 use Rattle.wire.specs.Calls.{call_of}
-use Rattle.engine.specs.Calling.{Answered}
 use Rattle.engine.proofs.Calling.{answered, died_answering, died_beginning}
 use Rattle.engine.proofs.Living.{answer_lives}
 use Rattle.engine.proofs.call.answer.Goals as goal

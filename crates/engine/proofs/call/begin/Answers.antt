@@ -1,7 +1,6 @@
-use Rattle.std.proofs.Common.{◌≡◌, ◌+◌, true, sym, ap, ◌∙◌, subst, arith, rules}
+use Rattle.std.proofs.Common.{◌≡◌, sym, ap, ◌∙◌, subst, arith, rules}
 use Rattle.model.specs.Book as book
 use Rattle.model.specs.Book.{bytes, Call}
-use Rattle.model.specs.Numbers.{first_page}
 use Rattle.octets.proofs.Parts.{bytes_from}
 use Rattle.device.specs.Ran.{stays}
 use Rattle.wire.specs.Calls.{meant, call_of}

@@ -1,4 +1,4 @@
-use Rattle.std.proofs.Common.{◌≡◌, ◌∙◌}
+use Rattle.std.proofs.Common.{◌∙◌}
 use Rattle.wire.specs.Calls.{meant}
 use Rattle.engine.proofs.Calling.{logged_turn, refused_turn, late_refused, no_place}
 use Rattle.engine.proofs.call.begin_logged.Goals as goal

@@ -1,5 +1,5 @@
-use Rattle.std.proofs.Common.{◌≡◌, sym, ◌∙◌, rules}
-use Rattle.engine.proofs.Calling.{log_was_read, not_read}
+use Rattle.std.proofs.Common.{◌∙◌, rules}
+use Rattle.engine.proofs.Calling.{log_was_read}
 use Rattle.engine.proofs.call.read_log.Goals as goal
 
 pub returns : goal.returns

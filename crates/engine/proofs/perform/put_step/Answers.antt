@@ -1,4 +1,4 @@
-use Rattle.std.proofs.Common.{◌≡◌, refl, arith}
+use Rattle.std.proofs.Common.{refl, arith}
 use Rattle.engine.proofs.Stepping.{half_more, halfway_on, halfway_none, half_dead, half_done, no_step}
 use Rattle.engine.proofs.perform.put_step.Goals as goal
 

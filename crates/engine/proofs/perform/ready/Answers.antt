@@ -1,4 +1,4 @@
-use Rattle.std.proofs.Common.{◌≡◌, true, sym, refl, ap, ◌∙◌, subst, rules}
+use Rattle.std.proofs.Common.{true, sym, refl, ap, ◌∙◌, subst, rules}
 use Rattle.std.proofs.lemmas.Bool.{both_ways}
 use Rattle.device.specs.Ran.{stays}
 use Rattle.engine.specs.declared.write.WriteKind.{WriteKind}

@@ -1,4 +1,4 @@
-use Rattle.std.proofs.Common.{◌≡◌, Bool, true, false, subst}
+use Rattle.std.proofs.Common.{Bool, subst}
 use Rattle.engine.specs.Recovering.{Recovered}
 use Rattle.engine.proofs.Recovering.{recovered, recovered_dead}
 use Rattle.engine.proofs.Living.{recovery_lives}

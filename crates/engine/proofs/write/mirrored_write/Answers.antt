@@ -1,4 +1,4 @@
-use Rattle.std.proofs.Common.{◌≡◌, Some, ap, ◌∙◌}
+use Rattle.std.proofs.Common.{Some, ap, ◌∙◌}
 use Rattle.device.specs.declared.mirror.Side.{Side}
 use Rattle.engine.specs.declared.write.WriteKind.TheVariants.{Journal}
 use Rattle.engine.specs.Works.{write_means}

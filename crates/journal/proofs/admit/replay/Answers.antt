@@ -1,4 +1,4 @@
-use Rattle.std.proofs.Common.{◌≡◌, refl, ◌∙◌, rules}
+use Rattle.std.proofs.Common.{refl, ◌∙◌, rules}
 use Rattle.journal.proofs.Admitted.{replay_planned, nothing_planned}
 use Rattle.journal.proofs.admit.replay.Goals as goal
 

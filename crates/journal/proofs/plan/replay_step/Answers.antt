@@ -1,8 +1,7 @@
-use Rattle.std.proofs.Common.{◌≡◌, ℕ, ◌+◌, ◌*◌, false, Some, sym, refl, ap, ◌∙◌, arith, rules}
+use Rattle.std.proofs.Common.{ℕ, ◌+◌, false, Some, sym, ap, ◌∙◌, arith, rules}
 use Rattle.std.proofs.lemmas.Bool.{lt-ltb}
 use Rattle.model.specs.Numbers.{first_page}
 use Rattle.model.specs.Book.{Page, nth}
-use Rattle.model.specs.Plain.{Put}
 use Rattle.layout.specs.PageList.{listed}
 use Rattle.journal.specs.Journal.{header_put}
 use Rattle.journal.proofs.Steps.{entry_item, last_item, past_item}

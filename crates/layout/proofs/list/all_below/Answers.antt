@@ -1,4 +1,4 @@
-use Rattle.std.proofs.Common.{◌≡◌, ℕ, suc, ◌+◌, ◌≤◌, Bool, ◌&&◌, ltb, List, sym, refl, ap, ◌∙◌, add-one, arith}
+use Rattle.std.proofs.Common.{◌≡◌, ℕ, ◌+◌, Bool, ◌&&◌, ltb, List, refl, ap, ◌∙◌, add-one, arith}
 use Rattle.layout.specs.PageList.{listed, listed_below}
 use Rattle.layout.proofs.list.all_below.Goals as goal
 

@@ -1,4 +1,4 @@
-use Rattle.std.proofs.Common.{◌≡◌, [], ◌∷◌, ◌++◌, Option, sym, refl, subst}
+use Rattle.std.proofs.Common.{[], ◌∷◌, ◌++◌, Option, sym, refl, subst}
 use Rattle.model.specs.Disks.{cut}
 use Rattle.world.specs.declared.history.Under.{Under}
 use Rattle.world.specs.declared.history.Event.TheVariants.{Cut, Power}

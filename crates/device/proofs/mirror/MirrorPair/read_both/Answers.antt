@@ -1,4 +1,4 @@
-use Rattle.std.proofs.Common.{◌≡◌, Bool, true, false, subst}
+use Rattle.std.proofs.Common.{Bool, subst}
 use Rattle.device.specs.Known.{Shown}
 use Rattle.device.proofs.Runs.{none_fetched, both_fetched}
 use Rattle.device.proofs.mirror.MirrorPair.read_both.Goals as goal

@@ -1,8 +1,4 @@
-use Rattle.std.proofs.Common.{◌≡◌, ℕ, [], ◌∷◌, sym, refl, subst}
-use Rattle.model.specs.Disks.{on}
 use Rattle.model.specs.Plain.{Put}
-use Rattle.device.specs.Ran.{Did, together, side_number}
-use Rattle.device.specs.declared.mirror.Side.{Side}
 use Rattle.device.proofs.Runs.{first_did, second_did}
 use Rattle.device.proofs.mirror.MirrorPair.write.Goals as goal
 

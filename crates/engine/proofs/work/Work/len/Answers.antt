@@ -1,4 +1,4 @@
-use Rattle.std.proofs.Common.{◌≡◌, sym, ◌∙◌, arith}
+use Rattle.std.proofs.Common.{sym, ◌∙◌, arith}
 use Rattle.engine.proofs.Writes.{count_copied, count_uncopied}
 use Rattle.engine.proofs.work.Work.len.Goals as goal
 

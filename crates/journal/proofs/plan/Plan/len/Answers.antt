@@ -1,4 +1,4 @@
-use Rattle.std.proofs.Common.{◌≡◌, false, [], ◌∷◌, length, sym, refl, arith, length-append, rules}
+use Rattle.std.proofs.Common.{false, [], ◌∷◌, sym, arith, length-append, rules}
 use Rattle.journal.specs.Journal.{entries_from, header_put}
 use Rattle.journal.proofs.Steps.{length_entries, length_blanks}
 use Rattle.journal.proofs.plan.Plan.len.Goals as goal

@@ -1,4 +1,4 @@
-use Rattle.std.proofs.Common.{◌≡◌, sym, arith}
+use Rattle.std.proofs.Common.{sym, arith}
 use Rattle.journal.proofs.Steps.{blank_item, no_blank}
 use Rattle.journal.proofs.plan.Plan.step.Goals as goal
 

@@ -1,4 +1,4 @@
-use Rattle.std.proofs.Common.{◌≡◌, length, ap, ◌∙◌, take_at}
+use Rattle.std.proofs.Common.{length, ap, ◌∙◌, take_at}
 use Rattle.world.proofs.history.Asked.new.Goals as goal
 
 pub returns : goal.returns

@@ -1,4 +1,4 @@
-use Rattle.std.proofs.Common.{◌≡◌, sym, ap}
+use Rattle.std.proofs.Common.{sym, ap}
 use mathlib.Core.Logic.{∥∥₁_map}
 use Rattle.wire.specs.Calls.{call_of}
 use Rattle.device.specs.Ran.{together}

@@ -1,4 +1,4 @@
-use Rattle.std.proofs.Common.{◌≡◌, vec_items, sym, refl, ap, ◌∙◌}
+use Rattle.std.proofs.Common.{ap, ◌∙◌}
 use mathlib.Core.Logic.{∥∥₁_map}
 use Rattle.device.specs.Blocks.{whole}
 use Rattle.world.proofs.Stated.{copied}

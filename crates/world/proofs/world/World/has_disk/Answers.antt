@@ -1,4 +1,4 @@
-use Rattle.std.proofs.Common.{◌≡◌, refl}
+use Rattle.std.proofs.Common.{refl}
 use Rattle.device.specs.Ran.{together}
 use Rattle.world.proofs.world.World.has_disk.Goals as goal
 

@@ -1,4 +1,4 @@
-use Rattle.std.proofs.Common.{◌≡◌, sym, refl}
+use Rattle.std.proofs.Common.{sym, refl}
 use mathlib.Core.Logic.{∥∥₁_map}
 use Rattle.device.specs.Ran.{together}
 use Rattle.world.proofs.Steps.{power_none}

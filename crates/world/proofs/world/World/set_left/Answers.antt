@@ -1,4 +1,4 @@
-use Rattle.std.proofs.Common.{◌≡◌, vec_items, ap}
+use Rattle.std.proofs.Common.{vec_items, ap}
 use mathlib.Core.Logic.{∥∥₁_map}
 use Rattle.device.specs.Blocks.{whole}
 use Rattle.world.proofs.Steps.{same_first, same_second}

@@ -1,6 +1,5 @@
-use Rattle.std.proofs.Common.{◌≡◌, Bool, List, [], ◌∷◌, ◌++◌, vec_items, sym, ap, ◌∙◌, subst, rules}
+use Rattle.std.proofs.Common.{◌≡◌, [], ◌∷◌, ◌++◌, vec_items, sym, rules}
 use mathlib.Core.Logic.{∥∥₁_map}
-use Rattle.world.specs.declared.history.Event.{Event}
 use Rattle.world.specs.declared.history.Event.TheVariants.{Answered}
 use Rattle.world.proofs.Stated.{nothing_left, past_kept, tells}
 use Rattle.world.proofs.world.World.tell.Goals as goal

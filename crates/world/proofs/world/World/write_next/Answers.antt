@@ -1,4 +1,4 @@
-use Rattle.std.proofs.Common.{◌≡◌, sym}
+use Rattle.std.proofs.Common.{sym}
 use mathlib.Core.Logic.{∥∥₁_map}
 use Rattle.device.specs.Ran.{together}
 use Rattle.world.proofs.Steps.{wrote_next, wrote_none}
