@@ -2,55 +2,69 @@
 //
 // A call moves all the bytes that it was lent or counts as failed: a file that gives or takes fewer is no
 // disk. The number of an error is the system's, or 0 where fewer bytes were moved and no error was told.
-ghost use Rattle.std.specs.Prelude.{◌≡◌, pos, negsuc, ◌≤ℤ◌, MatchResult, ◌≢◌};
+ghost use Rattle.std.specs.Prelude.{◌≡◌, ◌≢◌, pos, negsuc, MatchResult, IsOkAnd, IsErr, None};
+ghost use Rattle.std.specs.Fd.{file_raw_fd};
+ghost use Rattle.files.specs.System.{error_number, number_of};
+
+use crate::errors::{EBADF, error_number};
+use std::fs::{File, Metadata, OpenOptions};
+use std::io;
+use std::os::fd::AsRawFd;
+use std::os::unix::fs::FileExt;
 
 // Closed when it is let go.
+#[derive(Drop)]
 pub struct Descriptor {
     number: i32,
-}
-
-impl Drop for Descriptor {
-    fn drop(self) {
-        let Descriptor { number } = self;
-        libc::close(number);
-    }
+    // None where there is no descriptor at all.
+    file: Option<File>,
+    ghost numbered: { number ≡ number_of file },
 }
 
 // No descriptor at all, for a disk that is dead from the start. Every call on it fails.
 const NONE: i32 = -1;
 
-// No contract can say what a file does, so the calls of the system below have none. What is made of the
-// numbers that they give is said: by `of`, `done` and `moved`.
+// No contract can say what a file does, so the calls of the system below have none for a file that is there.
+// What is made of the answers that they give is said: by `of`, `done` and `moved`.
 impl Descriptor {
     pub fn none() -> Descriptor
         ensures { result.number ≡ negsuc 0 }
     {
-        Descriptor { number: NONE }
+        Descriptor {
+            number: NONE,
+            file: None,
+        }
     }
 
     // Opens a file that is there, to be read and written.
-    pub fn open(path: &str) -> Result<Descriptor, i32> {
-        Descriptor::of(os::open_update(path.as_bytes()))
+    pub fn open(rt: &HostRuntime, path: &str) -> Result<Descriptor, i32> {
+        Descriptor::of(OpenOptions::new().read(true).write(true).open(rt, path))
     }
 
     // Makes a file that is not there yet; a name that is taken is an error.
-    pub fn create(path: &str) -> Result<Descriptor, i32> {
-        Descriptor::of(os::create(path.as_bytes()))
+    pub fn create(rt: &HostRuntime, path: &str) -> Result<Descriptor, i32> {
+        Descriptor::of(
+            OpenOptions::new()
+                .write(true)
+                .create_new(true)
+                .open(rt, path),
+        )
     }
 
     // Opens a file or a folder to be read.
-    pub fn open_to_read(path: &str) -> Result<Descriptor, i32> {
-        Descriptor::of(os::open_read(path.as_bytes()))
+    pub fn open_to_read(rt: &HostRuntime, path: &str) -> Result<Descriptor, i32> {
+        Descriptor::of(File::open(rt, path))
     }
 
-    // An error where the system gave no descriptor.
-    fn of(number: i32) -> Result<Descriptor, i32>
-        ensures { MatchResult result (λ d. (d.number ≡ number) × (pos 0 ≤ℤ number)) (λ _. (pos 0 ≤ℤ number → ⊥)) }
+    // An error where the system opened no file.
+    fn of(opened: io::Result<File>) -> Result<Descriptor, i32>
+        ensures { MatchResult opened (λ file. IsOkAnd result (λ d. d.file ≡ Some file)) (λ error. result ≡ Err (error_number error)) }
     {
-        if number < 0 {
-            return Err(os::errno());
-        }
-        Ok(Descriptor { number })
+        let file = opened.map_err(error_number)?;
+        Ok(Descriptor {
+            number: file.as_raw_fd(),
+            file: Some(file),
+        })
     }
 
     pub fn number(&self) -> i32
@@ -59,51 +73,69 @@ impl Descriptor {
         self.number
     }
 
+    // The file that calls are made on, if there is one.
+    fn file(&self) -> Result<&File, i32>
+        ensures { self.now.file ≡ None → IsErr result }
+    {
+        self.file.as_ref().ok_or(EBADF)
+    }
+
     // Fills what is lent from a place in the file.
-    pub fn read_at(&self, out: &mut [u8], at: i64) -> Result<(), i32> {
-        let got = libc::pread(self.number, out, at);
+    pub fn read_at(&self, out: &mut [u8], at: i64) -> Result<(), i32>
+        ensures { self.now.file ≡ None → IsErr result }
+    {
+        let got = self.file()?.read_at(out, at.cast_unsigned());
         moved(got, out.len())
     }
 
     // Writes what is lent at a place in the file.
-    pub fn write_at(&self, bytes: &[u8], at: i64) -> Result<(), i32> {
-        let put = libc::pwrite(self.number, bytes, at);
+    pub fn write_at(&self, bytes: &[u8], at: i64) -> Result<(), i32>
+        ensures { self.now.file ≡ None → IsErr result }
+    {
+        let put = self.file()?.write_at(bytes, at.cast_unsigned());
         moved(put, bytes.len())
     }
 
     // Waits until all that was written lasts.
-    pub fn sync_data(&self) -> Result<(), i32> {
-        done(libc::fdatasync(self.number))
+    pub fn sync_data(&self) -> Result<(), i32>
+        ensures { self.now.file ≡ None → IsErr result }
+    {
+        done(self.file()?.sync_data())
     }
 
     // The same, with the file's length and a folder's names.
-    pub fn sync(&self) -> Result<(), i32> {
-        done(libc::fsync(self.number))
+    pub fn sync(&self) -> Result<(), i32>
+        ensures { self.now.file ≡ None → IsErr result }
+    {
+        done(self.file()?.sync_all())
     }
 
-    pub fn set_len(&self, bytes: i64) -> Result<(), i32> {
-        done(libc::ftruncate(self.number, bytes))
+    pub fn set_len(&self, bytes: i64) -> Result<(), i32>
+        ensures { self.now.file ≡ None → IsErr result }
+    {
+        done(self.file()?.set_len(bytes.cast_unsigned()))
+    }
+
+    // What the system knows of the file.
+    pub fn metadata(&self) -> Result<Metadata, i32>
+        ensures { self.now.file ≡ None → IsErr result }
+    {
+        self.file()?.metadata().map_err(error_number)
     }
 }
 
 // Whether a call went well.
-fn done(status: i32) -> Result<(), i32>
-    ensures { MatchResult result (λ _. pos 0 ≤ℤ status) (λ _. (pos 0 ≤ℤ status → ⊥)) }
+fn done(status: io::Result<()>) -> Result<(), i32>
+    ensures { MatchResult status (λ _. result ≡ Ok tt) (λ error. result ≡ Err (error_number error)) }
 {
-    if status < 0 {
-        return Err(os::errno());
-    }
-    Ok(())
+    status.map_err(error_number)
 }
 
 // Whether a call moved as many bytes as it was to.
-fn moved(count: isize, wanted: usize) -> Result<(), i32>
-    ensures { MatchResult result (λ _. count ≡ pos wanted) (λ _. (count ≢ pos wanted)) }
+fn moved(count: io::Result<usize>, wanted: usize) -> Result<(), i32>
+    ensures { MatchResult result (λ _. count ≡ Ok wanted) (λ _. (count ≢ Ok wanted)) }
 {
-    if count < 0 {
-        return Err(os::errno());
-    }
-    if count as usize != wanted {
+    if count.map_err(error_number)? != wanted {
         return Err(0);
     }
     Ok(())

@@ -8,5 +8,6 @@
 
 pub mod descriptor;
 pub mod disk;
+pub mod errors;
 pub mod making;
 pub mod span;

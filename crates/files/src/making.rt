@@ -7,6 +7,7 @@ ghost use Rattle.std.specs.Prelude.{◌≡◌, ◌+◌, ◌*◌, ◌<◌, ◌≤
 ghost use Rattle.model.specs.Numbers.{first_page, most_pages, page_size};
 
 use crate::descriptor::Descriptor;
+use crate::errors::ENOMEM;
 use crate::span::{at_most, file_length, place};
 use device::Device;
 use std::alloc::Global;
@@ -116,7 +117,7 @@ impl NewDisk {
         ensures dead { result ≡ false → self.new.alive ≡ false }
     {
         if self.run.extend_from_slice(bytes).is_err() {
-            return self.settle(Err(libc::ENOMEM));
+            return self.settle(Err(ENOMEM));
         }
         self.next += 1;
         true

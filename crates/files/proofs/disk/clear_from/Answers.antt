@@ -1,4 +1,4 @@
-use Rattle.std.proofs.Common.{sym, ◌∙◌, arith}
+use Rattle.std.proofs.Common.{arith}
 use Rattle.files.proofs.disk.clear_from.Goals as goal
 use Rattle.files.proofs.Clearing.{clear_one, clear_all}
 

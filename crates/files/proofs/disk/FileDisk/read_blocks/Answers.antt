@@ -1,4 +1,4 @@
-use Rattle.std.proofs.Common.{◌≡◌, ℕ, ◌≤◌, sym, ◌∙◌, subst, arith}
+use Rattle.std.proofs.Common.{ℕ, ◌≤◌, sym, subst, arith}
 use Rattle.files.proofs.Clearing.{back_empty, front_long}
 use Rattle.files.proofs.disk.FileDisk.read_blocks.Goals as goal
 
