@@ -6,6 +6,7 @@
 use crate::identity::of_name;
 use crate::names::sync_folder;
 use files::descriptor::Descriptor;
+use files::errors::{EEXIST, ENOENT, ENOMEM};
 use std::alloc::AllocError;
 use std::fs::File;
 use std::io::Read;
@@ -72,15 +73,15 @@ pub enum Found {
 // Looks for a mark beside a disk.
 pub fn find(rt: &HostRuntime, disk: &str, mark: Mark) -> Found {
     let Ok(name) = mark_name(rt, disk, mark) else {
-        return Found::Unknown(libc::ENOMEM);
+        return Found::Unknown(ENOMEM);
     };
-    match of_name(name.as_bytes()) {
+    match of_name(rt, name.as_str()) {
         Ok(_) => match text_of(rt, name.as_str()) {
             Ok(text) => Found::Yes(text),
-            Err(_) => Found::Unknown(libc::ENOMEM),
+            Err(_) => Found::Unknown(ENOMEM),
         },
         Err(error) => {
-            if error == libc::ENOENT {
+            if error == ENOENT {
                 return Found::No;
             }
             Found::Unknown(error)
@@ -89,16 +90,16 @@ pub fn find(rt: &HostRuntime, disk: &str, mark: Mark) -> Found {
 }
 
 // Opens a mark that is there, or makes it.
-fn have(name: &str, text: &str) -> Result<Descriptor, i32> {
-    match Descriptor::create(name) {
+fn have(rt: &HostRuntime, name: &str, text: &str) -> Result<Descriptor, i32> {
+    match Descriptor::create(rt, name) {
         Ok(file) => {
             // The mark counts even where its text finds no room.
             let _ = file.write_at(text.as_bytes(), 0);
             Ok(file)
         }
         Err(error) => {
-            if error == libc::EEXIST {
-                return Descriptor::open_to_read(name);
+            if error == EEXIST {
+                return Descriptor::open_to_read(rt, name);
             }
             Err(error)
         }
@@ -108,14 +109,14 @@ fn have(name: &str, text: &str) -> Result<Descriptor, i32> {
 // Sets a mark beside a disk, to last. One that is there stays as it is, and is made to last too.
 pub fn set(rt: &HostRuntime, disk: &str, mark: Mark, text: &str) -> Result<(), i32> {
     let Ok(name) = mark_name(rt, disk, mark) else {
-        return Err(libc::ENOMEM);
+        return Err(ENOMEM);
     };
     let Ok(line) = format!(in rt.alloc(); "{text}\n") else {
-        return Err(libc::ENOMEM);
+        return Err(ENOMEM);
     };
-    let file = have(name.as_str(), line.as_str())?;
+    let file = have(rt, name.as_str(), line.as_str())?;
     file.sync()?;
-    sync_folder(name.as_str())
+    sync_folder(rt, name.as_str())
 }
 
 // Notes a death, to last: beside the disk that goes on, and beside the dead one where that can be done. An
@@ -127,7 +128,7 @@ pub fn note_death(
     text: &str,
 ) -> Result<(), i32> {
     let Some(living) = living else {
-        return Err(libc::ENOENT);
+        return Err(ENOENT);
     };
     set(rt, living.as_str(), Mark::Alone, text)?;
     if let Some(dead) = dead {

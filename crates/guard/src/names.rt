@@ -1,21 +1,7 @@
 // Names of files: what an open file is called, and the folder that has a name.
-ghost use Rattle.libc.specs.Io.{Ended};
-
 use files::descriptor::Descriptor;
+use std::fs::read_link;
 use std::path::Path;
-use std::str::from_utf8;
-
-// A name as the system reads it, ended by a 0.
-fn ended(name: &[u8]) -> [u8; 4096]
-    ensures { Ended result }
-{
-    let mut path = [0; 4096];
-    for i in 0..name.len().min(4095) {
-        path[i] = name[i];
-    }
-    path[4095] = 0;
-    path
-}
 
 // What an open file is called, with all links gone through, so that a disk has one name however it was
 // given. None where the system doesn't tell, or the name is no text.
@@ -24,19 +10,13 @@ pub fn true_name(rt: &HostRuntime, file: &Descriptor) -> Option<String> {
     let Ok(link) = format!(in rt.alloc(); "/proc/self/fd/{number}") else {
         return None;
     };
-    let path = ended(link.as_bytes());
-    let mut name = [0; 4096];
-    let n = io::count(unsafe { libc::readlink(&path, &mut name) }, &name);
-    if n == 0 {
-        return None;
-    }
-    let Ok(text) = from_utf8(&name[0..n]) else {
+    let Ok(name) = read_link(rt, link.as_str()) else {
         return None;
     };
-    match String::from_str(rt.alloc(), text) {
-        Ok(text) => Some(text),
-        Err(_) => None,
+    if name.as_path().as_str().is_empty() {
+        return None;
     }
+    Some(name.into_string())
 }
 
 // The folder in which a name stands.
@@ -51,7 +31,7 @@ pub fn folder(name: &str) -> &str {
 }
 
 // Makes the names of a folder last.
-pub fn sync_folder(name: &str) -> Result<(), i32> {
-    let folder = Descriptor::open_to_read(folder(name))?;
+pub fn sync_folder(rt: &HostRuntime, name: &str) -> Result<(), i32> {
+    let folder = Descriptor::open_to_read(rt, folder(name))?;
     folder.sync()
 }

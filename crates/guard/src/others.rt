@@ -5,6 +5,7 @@
 // Each process opens its disks first and looks only then: of two that start at once at least one sees the
 // other. Processes of other users, of other containers and of other machines are not seen.
 use crate::identity::{Identity, of_name};
+use std::process::id;
 use std::{fs, io};
 
 // Whether an open file may be written, by what the system tells of its flags: a number in base 8, whose
@@ -26,7 +27,7 @@ fn writes_one(
     files: &[Identity],
 ) -> io::Result<bool> {
     let name = format!(in rt.alloc(); "/proc/{process}/fd/{number}")?;
-    let Ok(known) = of_name(name.as_bytes()) else {
+    let Ok(known) = of_name(rt, name.as_str()) else {
         return Ok(false);
     };
     for file in files {
@@ -62,13 +63,13 @@ fn writes(rt: &HostRuntime, process: i32, files: &[Identity]) -> io::Result<bool
 // Another process that has one of the files open to be written, by its number. An error: the system's table
 // can't be read.
 pub fn another_writer(rt: &HostRuntime, files: &[Identity]) -> io::Result<Option<i32>> {
-    let own = libc::getpid();
+    let own = id(rt.process());
     for entry in fs::read_dir(rt, "/proc")? {
         let entry = entry?;
         let Ok(process) = entry.file_name().parse::<i32>() else {
             continue;
         };
-        if process != own && writes(rt, process, files)? {
+        if process.unsigned_abs() != own && writes(rt, process, files)? {
             return Ok(Some(process));
         }
     }

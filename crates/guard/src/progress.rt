@@ -1,4 +1,5 @@
 // How far long work is, told once a second on stderr where that is a terminal.
+use std::io::IsTerminal;
 use std::time::Instant;
 
 #[derive(Clone, Copy)]
@@ -13,7 +14,7 @@ pub struct Progress {
 
 impl Progress {
     pub fn new(rt: HostRuntime, doing: &'static str, all: u64) -> Progress {
-        let last = if libc::isatty(libc::STDERR_FILENO) == 1 {
+        let last = if rt.stderr().is_terminal() {
             Instant::now(&rt).ok()
         } else {
             None
