@@ -13,6 +13,7 @@ use files::making::NewDisk;
 use layout::places::Layout;
 use std::fs;
 use std::process::Abort;
+use std::rt::Files;
 use std::test::*;
 
 const PAGES: u32 = 5;
@@ -32,7 +33,7 @@ fn memory(rt: &(impl Abort + AllocGlobal)) -> Result<Mirror<MemDisk>, Fail> {
 }
 
 fn new_disk(rt: &HostRuntime, name: &str) -> Result<NewDisk, Fail> {
-    let Ok(file) = Descriptor::create(name) else {
+    let Ok(file) = Descriptor::create(rt, name) else {
         return Err(Fail::new("no file"));
     };
     Ok(NewDisk::begin(rt.alloc(), file, Layout::blocks(PAGES)))
@@ -47,14 +48,17 @@ fn make_files(rt: &HostRuntime, first: &str, second: &str) -> Result<(), Fail> {
     let Some(work) = making(PAGES) else {
         return Err(Fail::new("no making"));
     };
-    assert!(finish(&mut disks, &work));
-    assert!(disks.first.end());
-    assert!(disks.second.end());
+    if !finish(&mut disks, &work) {
+        return Err(Fail::new("not filled"));
+    }
+    if !disks.first.end() || !disks.second.end() {
+        return Err(Fail::new("not ended"));
+    }
     Ok(())
 }
 
-fn file_disk(name: &str) -> Result<FileDisk, Fail> {
-    let Ok(file) = Descriptor::open(name) else {
+fn file_disk(rt: &HostRuntime, name: &str) -> Result<FileDisk, Fail> {
+    let Ok(file) = Descriptor::open(rt, name) else {
         return Err(Fail::new("no file"));
     };
     Ok(FileDisk::new(file, Layout::blocks(PAGES)))
@@ -64,22 +68,22 @@ fn file_disk(name: &str) -> Result<FileDisk, Fail> {
 fn on_files(rt: &HostRuntime, first: &str, second: &str) -> Result<Mirror<FileDisk>, Fail> {
     make_files(rt, first, second)?;
     Ok(Mirror {
-        first: file_disk(first)?,
-        second: file_disk(second)?,
+        first: file_disk(rt, first)?,
+        second: file_disk(rt, second)?,
     })
 }
 
 // The files have the bytes that the disks in memory have.
 fn same_blocks(
-    rt: &HostRuntime,
+    rt: &(impl Abort + Files + AllocGlobal),
     disks: &Mirror<MemDisk>,
     first: &str,
     second: &str,
 ) -> Result<(), Fail> {
     let a = fs::read(rt, first)?;
     let b = fs::read(rt, second)?;
-    assert!(octets::same(a.as_slice(), disks.first.bytes()), "first");
-    assert!(octets::same(b.as_slice(), disks.second.bytes()), "second");
+    assert!(rt; octets::same(a.as_slice(), disks.first.bytes()), "first");
+    assert!(rt; octets::same(b.as_slice(), disks.second.bytes()), "second");
     Ok(())
 }
 
@@ -211,7 +215,7 @@ fn one_disk_alone(rt: HostRuntime) -> Result<(), Fail> {
     make_files(&rt, "dead-1", "dead-2")?;
     let mut files = Mirror {
         first: FileDisk::dead(),
-        second: file_disk("dead-2")?,
+        second: file_disk(&rt, "dead-2")?,
     };
     both(&rt, &mut memory, &mut files, &write_call(2, 65))?;
     assert_eq!(rt; both(&rt, &mut memory, &mut files, &CLOSE)?, 1);
