@@ -18,6 +18,7 @@ use open::open_files;
 use order::{Command, Order, Paths};
 use start::Register;
 use std::io::Write;
+use std::process::ExitCode;
 use stop::{Stop, refuse};
 
 // Opens the disks and recovers them.
@@ -37,7 +38,7 @@ fn show_page(rt: &HostRuntime, register: &mut Register, number: u32) -> Result<(
 }
 
 fn run(rt: &HostRuntime) -> Result<(), Stop> {
-    if !streams::hold() {
+    if !streams::hold(rt) {
         return Err(refuse(rt, "the null device can't be opened"));
     }
     let Order { command, trace } = order::read_order(rt)?;
@@ -64,10 +65,13 @@ fn run(rt: &HostRuntime) -> Result<(), Stop> {
     }
 }
 
-fn main(rt: HostRuntime) -> Result<(), Stop> {
-    let result = run(&rt);
-    if let Err(Stop::NoMemory) = &result {
-        let _ = eprintln!(rt; "register: there is not enough memory");
+fn main(rt: HostRuntime) -> ExitCode {
+    match run(&rt) {
+        Ok(()) => ExitCode::SUCCESS,
+        Err(Stop::Said) => ExitCode::FAILURE,
+        Err(Stop::NoMemory) => {
+            let _ = eprintln!(rt; "register: there is not enough memory");
+            ExitCode::FAILURE
+        }
     }
-    result
 }

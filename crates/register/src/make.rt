@@ -8,6 +8,7 @@ use engine::make::making;
 use engine::perform::perform;
 use engine::work::Work;
 use files::descriptor::Descriptor;
+use files::errors::EEXIST;
 use files::making::NewDisk;
 use guard::marks;
 use guard::marks::{Found, Mark};
@@ -15,6 +16,7 @@ use guard::names::sync_folder;
 use guard::part::Put;
 use guard::progress::Progress;
 use layout::places::Layout;
+use std::fs::remove_file;
 use std::io::Error;
 
 // Refuses a name beside which a mark of an earlier disk stands, or may stand.
@@ -51,7 +53,7 @@ fn refuse_name(rt: &HostRuntime, path: &str) -> Result<(), Stop> {
 
 // Says why a file can't be made, and what became of what was begun.
 fn cannot_make(rt: &HostRuntime, path: &str, error: i32, begun: &str) -> Stop {
-    if error == libc::EEXIST {
+    if error == EEXIST {
         return refuse(
             rt,
             format_args!(
@@ -64,17 +66,17 @@ fn cannot_make(rt: &HostRuntime, path: &str, error: i32, begun: &str) -> Stop {
 }
 
 // Removes what was begun, and says whether that could be done.
-fn remove(path: &str) -> &'static str {
-    if os::unlink(path.as_bytes()) < 0 {
+fn remove(rt: &HostRuntime, path: &str) -> &'static str {
+    if remove_file(rt, path).is_err() {
         return "; what was begun can't be removed: remove it yourself";
     }
     "; what was begun is removed"
 }
 
 // Removes both, and says whether that could be done.
-fn remove_both(paths: &Paths) -> &'static str {
-    let first = remove(paths.first.as_str());
-    let second = remove(paths.second.as_str());
+fn remove_both(rt: &HostRuntime, paths: &Paths) -> &'static str {
+    let first = remove(rt, paths.first.as_str());
+    let second = remove(rt, paths.second.as_str());
     if first.len() > second.len() {
         first
     } else {
@@ -126,8 +128,8 @@ fn make(
     if !fill(rt, disks, work, trace) || !disks.first.end() || !disks.second.end() {
         return Err(error_of(disks));
     }
-    sync_folder(paths.first.as_str())?;
-    sync_folder(paths.second.as_str())
+    sync_folder(rt, paths.first.as_str())?;
+    sync_folder(rt, paths.second.as_str())
 }
 
 // Makes disks for so many pages, in files that are empty.
@@ -148,7 +150,7 @@ fn make_files(
     let Err(error) = make(rt, &mut disks, work, paths, trace) else {
         return Ok(());
     };
-    let begun = remove_both(paths);
+    let begun = remove_both(rt, paths);
     if error == 0 {
         return Err(refuse(
             rt,
@@ -163,14 +165,14 @@ fn make_files(
 
 // Makes two empty files that were not there, or none.
 fn create_both(rt: &HostRuntime, paths: &Paths) -> Result<(Descriptor, Descriptor), Stop> {
-    let first = match Descriptor::create(paths.first.as_str()) {
+    let first = match Descriptor::create(rt, paths.first.as_str()) {
         Ok(file) => file,
         Err(error) => return Err(cannot_make(rt, paths.first.as_str(), error, "")),
     };
-    match Descriptor::create(paths.second.as_str()) {
+    match Descriptor::create(rt, paths.second.as_str()) {
         Ok(second) => Ok((first, second)),
         Err(error) => {
-            let begun = remove(paths.first.as_str());
+            let begun = remove(rt, paths.first.as_str());
             Err(cannot_make(rt, paths.second.as_str(), error, begun))
         }
     }

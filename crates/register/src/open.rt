@@ -21,7 +21,7 @@ pub struct Opened {
     pub blocks: u64,
     identity: Identity,
     // How many names the file has.
-    names: u32,
+    names: u64,
 }
 
 // Both files, None for a disk that was said to be dead; and how many pages they hold.
@@ -61,7 +61,7 @@ pub fn refuse_mark_name(rt: &HostRuntime, path: &str, name: &str) -> Result<(), 
 }
 
 fn open_file(rt: &HostRuntime, path: &str) -> Result<Descriptor, Stop> {
-    match Descriptor::open(path) {
+    match Descriptor::open(rt, path) {
         Ok(file) => Ok(file),
         Err(error) => {
             let error = Error::from_raw_os_error(error);

@@ -53,7 +53,9 @@ fn serve_all<R: Read>(
 
 // Answers calls until the input ends. Writes that were not closed by then are dropped, which is said.
 pub fn serve(rt: &HostRuntime, register: &mut Register) -> Result<(), Stop> {
-    let mut input = BufReader::new(rt.alloc(), rt.stdin()).map_err(|_| std::alloc::AllocError)?;
+    let Ok(mut input) = BufReader::new(rt.alloc(), rt.stdin()) else {
+        return Err(Stop::NoMemory);
+    };
     let served = serve_all(rt, register, &mut input);
     let Some(left) = waiting(register) else {
         served?;

@@ -3,25 +3,36 @@
 // A file that is opened takes the lowest number that is free. Where a standard stream is closed that would
 // be the stream's own, and answers would be written into a disk. So the null device takes these numbers
 // first; it is opened the wrong way round, so that to read the one or to write the others is an error.
+use std::fs::{File, OpenOptions};
+use std::os::fd::{AsRawFd, IntoRawFd};
 
-const NULL: &[u8] = b"/dev/null";
+const NULL: &str = "/dev/null";
 
-// Takes every number below 3 that is free. False: the null device can't be opened.
-pub fn hold() -> bool {
-    let to_write = os::open_append(NULL);
-    if to_write < 0 {
+// The numbers of the first standard stream and of the last.
+const STDIN: i32 = 0;
+
+const STDERR: i32 = 2;
+
+// Keeps a file open to the end where its number is this one at most; any other is closed. Whether it is kept.
+fn keep_to(last: i32, file: File) -> bool {
+    if file.as_raw_fd() > last {
         return false;
     }
-    if to_write > libc::STDIN_FILENO {
-        libc::close(to_write);
-    }
+    let _number = file.into_raw_fd();
+    true
+}
+
+// Takes every number below 3 that is free. False: the null device can't be opened.
+pub fn hold(rt: &HostRuntime) -> bool {
+    let Ok(to_write) = OpenOptions::new().append(true).open(rt, NULL) else {
+        return false;
+    };
+    keep_to(STDIN, to_write);
     for _ in 0..3 {
-        let to_read = os::open_read(NULL);
-        if to_read < 0 {
+        let Ok(to_read) = File::open(rt, NULL) else {
             return false;
-        }
-        if to_read > libc::STDERR_FILENO {
-            libc::close(to_read);
+        };
+        if !keep_to(STDERR, to_read) {
             return true;
         }
     }
