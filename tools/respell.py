@@ -11,7 +11,6 @@ It was run once, on the commit that docs/PORT.md names; it is kept so that what 
 import glob
 import os
 import re
-import subprocess
 
 SIGNATURE = re.compile(
     r"^\s*(?:(?:pub|abbrev|unfoldable|data|record|open)\s+)*([^\s:(){}.,;λ→]+)\s*(?:\(.*\)|\{.*\})?\s*:\s"
@@ -80,7 +79,7 @@ def respell():
 
 
 def rename_crate(old, new):
-    subprocess.run(["git", "mv", f"crates/{old}", f"crates/{new}"], check=True)
+    os.rename(f"crates/{old}", f"crates/{new}")
     lines = read("crates.txt").splitlines()
     lines = [line if line.startswith("#") else re.sub(rf"\b{old}\b", new, line) for line in lines]
     write("crates.txt", "\n".join(lines) + "\n")
