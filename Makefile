@@ -12,7 +12,7 @@ run: build
 	@tests/show.sh
 
 build:
-	@rt check register simulator
+	@tests/build.sh
 
 test:
 	@tests/gate.sh rt ci

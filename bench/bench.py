@@ -26,7 +26,7 @@ import time
 import report
 
 ROOT = os.path.dirname(os.path.dirname(os.path.abspath(__file__)))
-REGISTER = os.path.join(ROOT, "target", "bin", "register")
+REGISTER = os.path.join(ROOT, "crates", "register", "out", "register")
 PLAIN = os.path.join(ROOT, "target", "bench", "plain")
 WORK = os.path.join(ROOT, "target", "bench", "work")
 DATA = os.path.join(ROOT, "target", "bench", "data")
@@ -483,7 +483,7 @@ def main():
     given = options.parse_args()
     size = {k: v[given.quick] for k, v in SIZES.items()}
     if not os.access(REGISTER, os.X_OK):
-        raise SystemExit("target/bin/register is not there: make build makes it")
+        raise SystemExit("crates/register/out/register is not there: make build makes it")
     shutil.rmtree(DATA, ignore_errors=True)
     os.makedirs(DATA)
     begin = time.monotonic()

@@ -1,6 +1,7 @@
 #!/usr/bin/env bash
-# The gate: the check that is given, then the system tests on what it built. The last line is the check's verdict,
-# 'N passed, M failed'.
+# The gate: the check that is given, then the programs built and the system tests on them. The last line is the
+# check's verdict, 'N passed, M failed'. The check passes an edit that no longer fits the text, and says of how many
+# that is so in its line `rt: ok`: the gate fails there.
 cd "$(dirname "$0")/.." || exit 1
 log=$(mktemp) || exit 1
 trap 'rm -f "$log"' EXIT
@@ -14,7 +15,9 @@ if [ "$status" -ne 0 ]; then
     exit "$status"
 fi
 
-if tests/system/run.sh; then
+if grep -Eq '^rt: ok.*, [0-9]+ bad' "$log"; then
+    echo "must-fail edits that don't fit: see above"
+elif tests/build.sh && tests/system/run.sh; then
     echo "$verdict"
     exit 0
 fi

@@ -3,7 +3,7 @@
 # under run/, so that a second time goes on with the same register.
 set -e
 cd "$(dirname "$0")/.."
-register=$PWD/target/bin/register
+register=$PWD/crates/register/out/register
 mkdir -p run
 cd run
 

@@ -6,7 +6,7 @@
     plant.py --untried    those of which it isn't noted yet what catches them, and which no gate tries
     plant.py --fits       no check; only looks whether every bug still fits the sources
     plant.py --table      no check; makes README.md anew from the files
-    plant.py --gate DIR   no check; reads what a gate left in DIR, its target/must-fail, of the bugs that it tried
+    plant.py --gate LOG   no check; reads what a gate printed of the bugs that it tried
 
     --one-by-one          a check for each; else bugs in functions that don't call each other are planted at once
     --note                writes what caught a bug into its file, and makes README.md anew
@@ -128,15 +128,16 @@ def clauses(crate, name):
     for file in sorted((ROOT / "crates" / crate / "src").rglob("*.rt")):
         found = re.search(rf"\bfn {name}\b.*?(?:\n\s*{{\n|;\n)", file.read_text(), re.S)
         if found:
-            stated = re.findall(r"ensures (\w+ )?{ λ \w+\. ⌜ ([A-Z][\w-]+)?", found[0])
-            return [clause.strip() or word for clause, word in stated if clause or word and not word.startswith("By")]
+            stated = re.findall(r"ensures (\w+ )?{ ([A-Z]\w+)?", found[0])
+            return [clause.strip() or word for clause, word in stated if clause or word and not word.startswith(("Is", "If", "Match"))]
     return []
 
 
 def fact(crate, name, need):
     """A fact that a check asks for, by the name that the checker gives it."""
     if need.startswith("returns"):
-        named = clauses(crate, name)
+        _, _, clause = need.partition("-clause-")
+        named = [clause] if clause else clauses(crate, name)
         return "what it ensures" + (f" (`{'`, `'.join(named)}`)" if named else "")
     if need.startswith("loop"):
         return "its loop's invariant"
@@ -153,7 +154,7 @@ def refusals(crate, log):
     missed in src/, one that is proved by hand in the function's proof. A proof may also be refused for a name that
     the code no longer gives: that says nothing of the fact, and comes last."""
     found = []
-    no_proof = r"^fn (?P<fn>\S+): no proof: (?!it calls).*does not close `(?P<need>[^`]*)`"
+    no_proof = r"^fn (?P<fn>\S+): no proof: (?!it calls).*did not prove `(?P<need>[^`]*)`"
     in_proof = r"^\S*/proofs/(?P<path>[^.\s]*)\.antt:\d+:\d+: error: (?:`(?P<of>[^`]*)`)?(?P<said>.*)$"
     for line in re.finditer(f"{no_proof}|{in_proof}", log, re.M):
         if line["fn"]:
@@ -176,10 +177,7 @@ def told(bug, log):
     """What caught a bug, in one line, by the log of a check that failed."""
     found = refusals(bug.crate, log)
     if not found:
-        failed = re.search(r"^rt: (\w+): what the program wrote is not|^rt: (\w+) proved, and its tests FAILED", log, re.M)
-        if not failed:
-            raise ValueError(f"{bug.name}: the check fails, but not at a proof:\n{log[-2000:]}")
-        return f"what `{failed[1]}` prints" if failed[1] else f"the tests of `{failed[2]}`"
+        raise ValueError(f"{bug.name}: the check fails, but not at a proof:\n{log[-2000:]}")
     own = [one for one in found if is_planted_in(bug, one[0])]
     function, need, where = (own or found)[0]
     if function.startswith("proofs/"):
@@ -187,11 +185,31 @@ def told(bug, log):
     return f"`{function}`: {fact(bug.crate, function.rsplit('::', 1)[-1], need)}{where}"
 
 
-def run(copy, words, log):
-    done = subprocess.run(words, cwd=copy, capture_output=True, text=True, check=False)
+def run(folder, words, log):
+    done = subprocess.run(words, cwd=folder, capture_output=True, text=True, check=False)
     log.parent.mkdir(exist_ok=True)
     log.write_text(done.stdout + done.stderr)
     return done.returncode, log.read_text()
+
+
+def check(copy, crates, log):
+    """Checks crates. Whether one is refused, and what was said."""
+    said = ""
+    for crate in crates:
+        status, said = run(copy / "crates" / crate, [os.environ.get("RT", "rt"), "check"], log)
+        if status:
+            return True, said
+    return False, said
+
+
+def prints_other(copy, crate, log):
+    """Whether a program that is built prints other text than it has to."""
+    folder = copy / "crates" / crate
+    if not (folder / "stdout").is_file():
+        return False
+    arguments = (folder / "args").read_text().splitlines()
+    _, said = run(folder / "data", [str(folder / "out" / crate), *arguments], log)
+    return said != (folder / "stdout").read_text()
 
 
 def try_bugs(copy, bugs):
@@ -202,16 +220,24 @@ def try_bugs(copy, bugs):
     try:
         for file, text in planted(copy, bugs).items():
             (copy / file).write_text(text)
-        failed, said = run(copy, [os.environ.get("RT", "rt"), "check", *bugs[0].check], log)
+        failed, said = check(copy, bugs[0].check, log)
         if failed and len(bugs) > 1:
             refused = [one[0] for one in refusals(bugs[0].crate, said)]
             return {bug: told(bug, said) for bug in bugs if any(is_planted_in(bug, one) for one in refused)}
         if failed:
             return {bugs[0]: told(bugs[0], said)}
+        if len(bugs) > 1:
+            return {}
+        seen = None
+        if bugs[0].check != [bugs[0].crate]:
+            run(copy, ["tests/build.sh"], log)
+            for crate in bugs[0].check:
+                if prints_other(copy, crate, log):
+                    return {bugs[0]: f"what `{crate}` prints"}
         if bugs[0].tests:
             _, said = run(copy, ["tests/system/run.sh", *bugs[0].tests], log)
-        seen = re.search(r"^system test ([^:]+): FAILED", said, re.M)
-        return {bugs[0]: f"the system test of {seen[1]}" if seen else ""} if len(bugs) == 1 else {}
+            seen = re.search(r"^system test ([^:]+): FAILED", said, re.M)
+        return {bugs[0]: f"the system test of {seen[1]}" if seen else ""}
     finally:
         for file, text in before.items():
             (copy / file).write_text(text)
@@ -239,22 +265,29 @@ def try_all(copy, bugs, one_by_one):
         yield from found.items()
 
 
-def gate_found(folder, bug):
-    """What caught a bug when a gate tried it as a must-fail edit; nothing where it didn't."""
-    log = folder / bug.crate / Path(bug.edit).stem / ".log"
-    text = log.read_text() if bug.edit and log.is_file() else ""
-    return told(bug, text) if "logic=not-proved" in text else ""
+def gate_found(printed, bug):
+    """What caught a bug when a gate tried it as a must-fail edit, by the line that it printed; nothing where it
+    printed none. The line names a fact that is missed in src/ by its place, so the bug's own function is meant."""
+    label = re.escape(f"{bug.crate}/{Path(bug.edit).name}") if bug.edit else ""
+    line = label and re.search(rf"^rt: must-fail {label}: refused, as it must be: (.*)$", printed, re.M)
+    if not line:
+        return ""
+    missed = re.match(r"note: src/.*\(`([^`]*)`\)", line[1])
+    if not missed:
+        return told(bug, line[1])
+    module, name = bug.places[0]
+    return f"`{module}::{name}`: {fact(bug.crate, name, missed[1])}"
 
 
 def make_copy(copy):
-    """The repository without its history; what is proved there is taken along."""
+    """The repository without its history. What a check kept in the copy, in out/, stays there; a first check takes
+    what checks on this machine kept of the same crates."""
     for part in ("crates", "crates.txt", "tests"):
-        if (copy / part).is_dir():
-            shutil.rmtree(copy / part)
         source = ROOT / part
-        (shutil.copytree if source.is_dir() else shutil.copy2)(source, copy / part)
-    if (ROOT / "target").is_dir() and not (copy / "target").is_dir():
-        shutil.copytree(ROOT / "target", copy / "target", symlinks=True)
+        if source.is_dir():
+            shutil.copytree(source, copy / part, ignore=shutil.ignore_patterns("out"), dirs_exist_ok=True)
+        else:
+            shutil.copy2(source, copy / part)
 
 
 def make_table(bugs):
@@ -303,8 +336,9 @@ def main():
         return 1 if misfits else 0
 
     if words.gate:
+        printed = words.gate.read_text()
         for bug in bugs:
-            caught = gate_found(words.gate, bug)
+            caught = gate_found(printed, bug)
             if caught:
                 print(f"{bug.name}: {caught}")
             if caught and words.note:

@@ -11,4 +11,4 @@ done
 work=$(mktemp -d -p /dev/shm 2>/dev/null || mktemp -d) || exit 1
 trap 'rm -rf "$work"' EXIT
 cc -Wall -Werror -O1 -shared -fPIC -o "$work/faults.so" faults.c -ldl || exit 1
-python3 -B run_tests.py "$work" "${REGISTER:-../../target/bin/register}" "$@"
+python3 -B run_tests.py "$work" "${REGISTER:-../../crates/register/out/register}" "$@"
