@@ -225,7 +225,7 @@ def test_change(register):
     ):
         run = register.run("change", "first", "second", *words)
         count = sum("=" in word for word in words)
-        assert run.status == 0 and run.out == f"done, pages changed: {count}\n".encode(), run
+        assert run.status == 0 and run.out == f"done: {count} pages changed\n".encode(), run
         check_book(register, [book])
 
 
@@ -234,7 +234,7 @@ def test_change_of_many_pages(register):
     for i in range(256):
         register.write_file(f"page{i}", bytes([i]) * BLOCK)
     run = register.run("change", "first", "second", *[f"{i + 40}=page{i}" for i in range(256)])
-    assert run.status == 0 and run.out == b"done, pages changed: 256\n", run
+    assert run.status == 0 and run.out == b"done: 256 pages changed\n", run
     disk = register.bytes_of("first")
     for i in range(256):
         at = BLOCK * (FIRST_PAGE + 40 + i)

@@ -42,7 +42,7 @@ def begin(register):
         register.write_file(name, name[-1].encode() * BLOCK)
     assert play(register, *commands_of("Making")).out == b"made two disks of 60000 pages\n"
     work = commands_of("A day's work")
-    assert play(register, *work[:1]).out == b"done, pages changed: 3\n"
+    assert play(register, *work[:1]).out == b"done: 3 pages changed\n"
     play(register, *work)
     assert register.bytes_of("page-7") == b"7" * BLOCK
 

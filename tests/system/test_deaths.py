@@ -101,7 +101,7 @@ def test_disk_fails_in_every_command(register, dead):
     for words, told, book in (
         (["read", "first", "second", 1], C, BOOKS[2]),
         (["check", "first", "second"], stand[dead] + b"disks: one alone\n", BOOKS[2]),
-        (["change", "first", "second", "0=b"], b"done, pages changed: 1\n", changed),
+        (["change", "first", "second", "0=b"], b"done: 1 pages changed\n", changed),
     ):
         register.put_back(left)
         assert register.run(*words, log=True).status == 0

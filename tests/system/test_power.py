@@ -89,7 +89,7 @@ def test_change_is_whole_or_not_at_all(register):
         register.write_file("d", D)
         run = register.run("change", "first", "second", "0=a", "2=d", faults=f"kill:step:*:{k}")
         if run.status == 0:
-            assert run.out == b"done, pages changed: 2\n", run
+            assert run.out == b"done: 2 pages changed\n", run
             check_book(register, [changed])
             break
         is_killed(run)
