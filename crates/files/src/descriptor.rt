@@ -2,8 +2,7 @@
 //
 // A call moves all the bytes that it was lent or counts as failed: a file that gives or takes fewer is no
 // disk. The number of an error is the system's, or 0 where fewer bytes were moved and no error was told.
-ghost use Rattle.std.specs.Prelude.{◌≡◌, ◌≢◌, pos, negsuc, MatchResult, IsOkAnd, IsErr, None};
-ghost use Rattle.std.specs.Fd.{file_raw_fd};
+ghost use Rattle.std.specs.Prelude.{◌≡◌, ◌≢◌, negsuc, MatchResult, IsOkAnd, IsErr, None};
 ghost use Rattle.files.specs.System.{error_number, number_of};
 
 use crate::errors::{EBADF, error_number};
@@ -25,7 +24,8 @@ pub struct Descriptor {
 const NONE: i32 = -1;
 
 // No contract can say what a file does, so the calls of the system below have none for a file that is there.
-// What is made of the answers that they give is said: by `of`, `done` and `moved`.
+// What is made of the answers that they give is said: by `of`, `done` and `moved`. A read or a write is one
+// call; an opening, a sync or a new length that a signal breaks off is begun anew by the standard library.
 impl Descriptor {
     pub fn none() -> Descriptor
         ensures { result.number ≡ negsuc 0 }
@@ -75,7 +75,7 @@ impl Descriptor {
 
     // The file that calls are made on, if there is one.
     fn file(&self) -> Result<&File, i32>
-        ensures { self.now.file ≡ None → IsErr result }
+        ensures { MatchResult result (λ file. self.now.file ≡ Some file.now) (λ _. self.now.file ≡ None) }
     {
         self.file.as_ref().ok_or(EBADF)
     }
