@@ -24,6 +24,7 @@ use show::sum::Sum;
 use show::text::draw;
 use std::alloc::AllocError;
 use std::fmt::Write;
+use std::process::ExitCode;
 use std::{env, fs, io};
 use watch::Watcher;
 
@@ -223,6 +224,9 @@ fn run(rt: &HostRuntime) -> Result<(), Stopped> {
     }
 }
 
-fn main(rt: HostRuntime) -> Result<(), Stopped> {
-    run(&rt)
+fn main(rt: HostRuntime) -> ExitCode {
+    match run(&rt) {
+        Ok(()) => ExitCode::SUCCESS,
+        Err(_) => ExitCode::FAILURE,
+    }
 }
