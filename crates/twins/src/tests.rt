@@ -1,4 +1,4 @@
-// Each test makes its own files, in the folder in which it runs.
+// Each test makes its own files, in the folder in which it runs, and removes them.
 use device::Device;
 use device::memory::MemDisk;
 use device::mirror::{Mirror, Pair};
@@ -87,6 +87,12 @@ fn same_blocks(
     Ok(())
 }
 
+fn remove_files(rt: &impl Files, first: &str, second: &str) -> Result<(), Fail> {
+    fs::remove_file(rt, first)?;
+    fs::remove_file(rt, second)?;
+    Ok(())
+}
+
 // A number for each answer.
 fn number(reply: Option<Reply>) -> u32 {
     match reply {
@@ -144,7 +150,8 @@ fn read_all(
 fn making_fills_both(rt: HostRuntime) -> Result<(), Fail> {
     let memory = memory(&rt)?;
     make_files(&rt, "made-1", "made-2")?;
-    same_blocks(&rt, &memory, "made-1", "made-2")
+    same_blocks(&rt, &memory, "made-1", "made-2")?;
+    remove_files(&rt, "made-1", "made-2")
 }
 
 #[test]
@@ -160,7 +167,8 @@ fn calls(rt: HostRuntime) -> Result<(), Fail> {
     assert_eq!(rt; both(&rt, &mut memory, &mut files, &SIZE)?, 1005);
     assert_eq!(rt; both(&rt, &mut memory, &mut files, &[9])?, 101);
     read_all(&rt, &mut memory, &mut files)?;
-    same_blocks(&rt, &memory, "calls-1", "calls-2")
+    same_blocks(&rt, &memory, "calls-1", "calls-2")?;
+    remove_files(&rt, "calls-1", "calls-2")
 }
 
 // Does some of the writes of a work, and stops there as if power went.
@@ -201,8 +209,7 @@ fn cuts(rt: HostRuntime) -> Result<(), Fail> {
         cut_close(&rt, &mut files, n)?;
         same_blocks(&rt, &memory, "cut-1", "cut-2")?;
         read_all(&rt, &mut memory, &mut files)?;
-        fs::remove_file(&rt, "cut-1")?;
-        fs::remove_file(&rt, "cut-2")?;
+        remove_files(&rt, "cut-1", "cut-2")?;
     }
     Ok(())
 }
@@ -220,5 +227,6 @@ fn one_disk_alone(rt: HostRuntime) -> Result<(), Fail> {
     both(&rt, &mut memory, &mut files, &write_call(2, 65))?;
     assert_eq!(rt; both(&rt, &mut memory, &mut files, &CLOSE)?, 1);
     read_all(&rt, &mut memory, &mut files)?;
-    same_blocks(&rt, &memory, "dead-1", "dead-2")
+    same_blocks(&rt, &memory, "dead-1", "dead-2")?;
+    remove_files(&rt, "dead-1", "dead-2")
 }
