@@ -16,6 +16,9 @@ pub const ENOMEM: i32 = 12;
 // A file has the name already.
 pub const EEXIST: i32 = 17;
 
+// What was given can't be asked for.
+pub const EINVAL: i32 = 22;
+
 // The number of an error, 0 where it has none.
 pub fn error_number(error: io::Error) -> i32
     ensures { result ≡ error_number error }

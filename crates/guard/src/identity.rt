@@ -2,9 +2,10 @@
 ghost use Rattle.std.specs.Prelude.{◌≡◌, ◌==◌, bit_and};
 
 use files::descriptor::Descriptor;
-use files::errors::error_number;
+use files::errors::{EINVAL, error_number};
 use std::fs::{Metadata, metadata};
 use std::os::unix::fs::MetadataExt;
+use std::str::from_utf8;
 
 #[derive(Clone, Copy, PartialEq, Eq, Debug)]
 pub struct Identity {
@@ -53,8 +54,11 @@ pub fn of_open(file: &Descriptor) -> Result<Known, i32> {
     Ok(told(&file.metadata()?))
 }
 
-// What is known of the file that a name leads to, through links.
-pub fn of_name(rt: &HostRuntime, path: &str) -> Result<Known, i32> {
+// What is known of the file that a name leads to, through links. A name that is no text can't be asked for.
+pub fn of_name(rt: &HostRuntime, path: &[u8]) -> Result<Known, i32> {
+    let Ok(path) = from_utf8(path) else {
+        return Err(EINVAL);
+    };
     let found = metadata(rt, path).map_err(error_number)?;
     Ok(told(&found))
 }

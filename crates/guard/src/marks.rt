@@ -75,7 +75,7 @@ pub fn find(rt: &HostRuntime, disk: &str, mark: Mark) -> Found {
     let Ok(name) = mark_name(rt, disk, mark) else {
         return Found::Unknown(ENOMEM);
     };
-    match of_name(rt, name.as_str()) {
+    match of_name(rt, name.as_bytes()) {
         Ok(_) => match text_of(rt, name.as_str()) {
             Ok(text) => Found::Yes(text),
             Err(_) => Found::Unknown(ENOMEM),

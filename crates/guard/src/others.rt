@@ -27,7 +27,7 @@ fn writes_one(
     files: &[Identity],
 ) -> io::Result<bool> {
     let name = format!(in rt.alloc(); "/proc/{process}/fd/{number}")?;
-    let Ok(known) = of_name(rt, name.as_str()) else {
+    let Ok(known) = of_name(rt, name.as_bytes()) else {
         return Ok(false);
     };
     for file in files {
