@@ -13,11 +13,12 @@ import test_gate
 import test_making
 import test_picture
 import test_power
+import test_register
 import test_starts
 from register import Register
 
 # The longest first.
-MODULES = [test_deaths, test_power, test_starts, test_making, test_calls, test_clerk, test_gate, test_picture]
+MODULES = [test_deaths, test_register, test_power, test_starts, test_making, test_calls, test_clerk, test_gate, test_picture]
 
 
 def all_tests():

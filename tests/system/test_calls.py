@@ -168,9 +168,8 @@ def test_refusals_come_before_recovery(register):
     register.serve(SALE, faults="kill:write:*:17")
     register.write_file("a", A)
     for words, said in (
-        (["read", "first", "second", "3"], "there is no page 3; the register has 3, from 0 on"),
-        (["read", "first", "second", "4294967295"], "there is no page 4294967295"),
-        (["change", "first", "second", "0=a", "3=a"], "there is no page 3"),
+        (["change", "first", "second", "0=a", "3=a"], "there is no page 3; the register has 3, from 0 on"),
+        (["change", "first", "second", "4294967295=a"], "there is no page 4294967295"),
         (["change", "first", "second", "0=a", "1=none"], "none can't be read"),
         (["serve", "first", "none"], "none can't be opened"),
         (["check", "first", "second", "0"], "one word too many"),

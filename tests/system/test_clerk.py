@@ -151,7 +151,7 @@ def messages():
         folder = os.path.join(ROOT, "crates", crate, "src")
         for name in sorted(os.listdir(folder)):
             text = read_text("crates", crate, "src", name)
-            found += re.findall(r'(?:refuse|eprintln!|format_args!)\(\s*(?:rt,|self\.rt,)?\s*"((?:register: )?[^"]*)"', text)
+            found += re.findall(r'(?:refuse|eprintln!|format_args!)\(\s*(?:(?:self\.)?rt[,;])?\s*"((?:register: )?[^"]*)"', text)
     return [text for text in found if re.search(r"[a-z]{3}", re.sub(r"\{.*?\}", "", text.replace("register: ", "")))]
 
 

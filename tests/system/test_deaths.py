@@ -136,11 +136,11 @@ def test_killed_after_failure(register, act, call, dead):
         check_killed_after(register, SALE, f"{act}:{call}:{dead}:{k}", dead)
 
 
-@each("first", "second")
-def test_killed_after_failure_in_the_second_sale(register, dead):
-    sale = count(calls_of(register, SALE), dead, "write")
-    for k in range(sale, count(calls_of(register), dead, "write")):
-        check_killed_after(register, SCRIPT, f"fail:write:{dead}:{k}", dead)
+@each(*on_each_disk([("fail", "write"), ("short", "write"), ("fail", "sync")]))
+def test_killed_after_failure_in_the_second_sale(register, act, call, dead):
+    sale = count(calls_of(register, SALE), dead, call)
+    for k in range(sale, count(calls_of(register), dead, call)):
+        check_killed_after(register, SCRIPT, f"{act}:{call}:{dead}:{k}", dead)
 
 
 @each("first", "second")

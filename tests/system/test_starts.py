@@ -76,16 +76,6 @@ def test_one_file_twice(register):
         refuses_untouched(register, ["serve", "first", second], "are one file")
 
 
-def test_disk_of_two_names(register):
-    """A mark beside the one name would not be found beside the other."""
-    register.new_disks()
-    os.link(register.path("second"), register.path("hard"))
-    for first, second in (("first", "second"), ("first", "hard"), ("-", "hard")):
-        refuses_untouched(register, ["serve", first, second], "has 2 names")
-    register.remove("hard")
-    assert register.serve(READS).status == 0
-
-
 # Standard streams that are closed, or lead nowhere.
 
 

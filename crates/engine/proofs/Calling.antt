@@ -19,7 +19,7 @@ use Rattle.wire.specs.Calls.{meant, call_of, Carried}
 use Rattle.wire.proofs.Calls.{own_bytes}
 use Rattle.wire.specs.declared.answer.Refusal.{Refusal}
 use Rattle.wire.specs.declared.answer.Refusal.TheVariants.{NotACall, Unfit, NoSuchPage, LogFull}
-use Rattle.wire.specs.declared.call.Call.{Call as Code-call}
+use Rattle.wire.specs.declared.call.Call.{Call as CodeCall}
 use Rattle.wire.specs.declared.call.Call.TheVariants.{Read, Write, Close, Size}
 use Rattle.journal.specs.Journal.{holds, count, pages_of, book_of, call_puts, puts_of}
 use Rattle.journal.specs.Plans.{replays, plan_puts}
@@ -29,7 +29,7 @@ use Rattle.journal.specs.declared.plan.Plan.TheVariants.{Nothing}
 use Rattle.journal.proofs.Admitted.{refusals_are}
 use Rattle.engine.specs.declared.work.Work.{Work}
 use Rattle.engine.specs.declared.call.Reply.{Reply}
-use Rattle.engine.specs.declared.call.Reply.TheVariants.{Refused, Done, Page as Page-read, Number}
+use Rattle.engine.specs.declared.call.Reply.TheVariants.{Refused, Done, Page as PageRead, Number}
 use Rattle.engine.specs.declared.call.Turn.{Turn}
 use Rattle.engine.specs.Works.{work_writes, copy_writes, both_writes}
 use Rattle.engine.specs.Doing.{LogSame, Copies, Finished}
@@ -79,7 +79,7 @@ number_not_0 Unfit e = omega arith
 number_not_0 NoSuchPage e = omega arith
 number_not_0 LogFull e = omega arith
 
-pub no_place : (c : Code-call) → 0 ≡ place (meant c)
+pub no_place : (c : CodeCall) → 0 ≡ place (meant c)
 unfolding place
 no_place (Read p) = refl
 no_place (Write p bs) = refl
@@ -126,12 +126,12 @@ pub late_refused : (n : ℕ) (b : List Page) (c : Call) (r : Refusal) (k : ℕ) 
 late_refused n b c r k ok e f g = turned_late n b c ok e ∙ ap (λ x. late x c) f ∙ sym g
 
 -- a page that is read
-pub read_turn : (n a : ℕ) (b : List Page) (page : Page) (t : Turn) → early n (book.read a) ≡ 0 → page ≡ nth b (first_page + a) → t.reply ≡ Page-read → t.work.plan ≡ Nothing → t.work.copy ≡ None →
+pub read_turn : (n a : ℕ) (b : List Page) (page : Page) (t : Turn) → early n (book.read a) ≡ 0 → page ≡ nth b (first_page + a) → t.reply ≡ PageRead → t.work.plan ≡ Nothing → t.work.copy ≡ None →
     TurnIs n b (book.read a) page t
 unfolding told call_puts
 read_turn n a b page t e p f g h =
     let q = turned_late n b (book.read a) tt e in
-    idle_turn n b (book.read a) page t Page-read f g h (ap book.page (p ∙ sym (nth_from first_page b a)) ∙ taken_answer n b (book.read a) tt q) (taken_puts n b (book.read a) tt q)
+    idle_turn n b (book.read a) page t PageRead f g h (ap book.page (p ∙ sym (nth_from first_page b a)) ∙ taken_answer n b (book.read a) tt q) (taken_puts n b (book.read a) tt q)
 
 pub size_turn : (n : ℕ) (b : List Page) (page : Page) (t : Turn) → early n book.size ≡ 0 → t.reply ≡ Number n → t.work.plan ≡ Nothing → t.work.copy ≡ None → TurnIs n b book.size page t
 unfolding told call_puts
@@ -173,7 +173,7 @@ logged_turn n b c page t k p list block ok logs e f l has puts ls done plan alon
     )
 
 -- a call that came in bytes
-not_garbled : (c : Code-call) (k : ℕ) → meant c ≡ book.garbled k → ⊥
+not_garbled : (c : CodeCall) (k : ℕ) → meant c ≡ book.garbled k → ⊥
 not_garbled (Read p) k e = let z : ◌≡◌ {A = ℕ} 0 1 = cc in omega arith
 not_garbled (Write p bs) k e = let z : ◌≡◌ {A = ℕ} 0 1 = cc in omega arith
 not_garbled Close k e = let z : ◌≡◌ {A = ℕ} 0 1 = cc in omega arith
@@ -186,14 +186,14 @@ carried_in_bytes book.close h = tt
 carried_in_bytes book.size h = tt
 carried_in_bytes (book.garbled k) h = tt
 
-pub came_in_bytes : (bs : List ℕ) (c : Code-call) → bytes bs ≡ true → meant c ≡ call_of bs → InBytes (meant c)
+pub came_in_bytes : (bs : List ℕ) (c : CodeCall) → bytes bs ≡ true → meant c ≡ call_of bs → InBytes (meant c)
 came_in_bytes bs c h e =
     let P : Call → Type 0 = λ x. InBytes x in
     subst P (sym e) (carried_in_bytes (call_of bs) (own_bytes bs h (λ k z. not_garbled c k (e ∙ z))).0)
 
-pub logs_call : (c : Code-call) → ((p : ℕ) × (bs : Bor (List ℕ)) × (c ≡ Write p bs)) ⊎ (c ≡ Close) → Logs (meant c)
-logs_call c (inl (p, bs, e)) = let P : Code-call → Type 0 = λ x. Logs (meant x) in subst P (sym e) tt
-logs_call c (inr e) = let P : Code-call → Type 0 = λ x. Logs (meant x) in subst P (sym e) tt
+pub logs_call : (c : CodeCall) → ((p : ℕ) × (bs : Bor (List ℕ)) × (c ≡ Write p bs)) ⊎ (c ≡ Close) → Logs (meant c)
+logs_call c (inl (p, bs, e)) = let P : CodeCall → Type 0 = λ x. Logs (meant x) in subst P (sym e) tt
+logs_call c (inr e) = let P : CodeCall → Type 0 = λ x. Logs (meant x) in subst P (sym e) tt
 
 pub begun_as : (s t : Option Both) (n : ℕ) (c k : Call) (page : Page) (r : Option Turn) → c ≡ k → Begun s t n c page r → Begun s t n k page r
 begun_as s t n c k page r e h = let P : Call → Type 0 = λ x. Begun s t n x page r in subst P e h

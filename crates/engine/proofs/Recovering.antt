@@ -131,7 +131,7 @@ no_copy b w e =
 -- both disks live: the first is gone by
 pub begun_both : (s t u : Option Both) (pages : ℕ) (o : Option ℕ) (kept : Page) (p q : List ℕ) (r : Bool) (w : Work) → Scanned s t pages o kept → FetchedBoth t u 0 p q r → r ≡ true → w.copy ≡ o →
     w.block ≡ kept → WorksOut p pages w → RecoveryBegun s u pages (Some w)
-begun_both s t u pages o kept p q r w scan fetch good is-copy is_Block works d is long =
+begun_both s t u pages o kept p q r w scan fetch good is_copy is_Block works d is long =
     let x = scan d is long in
     let y = fetch x.0 x.1 in
     let z = y.4 good in
@@ -143,7 +143,7 @@ begun_both s t u pages o kept p q r w scan fetch good is-copy is_Block works d i
     let S : Both → Type 0 = λ v. Shows p v.first.has 0 in
     let C : Page → Type 0 = λ v. (copy_put o v ≡ highest 0 d.first.has d.second.has) × Copies o v d.first.has in
     let D : Option ℕ → Type 0 = λ v. (copy_put v w.block ≡ highest 0 d.first.has d.second.has) × Copies v w.block d.first.has in
-    let c = subst D (sym is-copy) (subst C (sym is_Block) (h.1, h.2)) in (
+    let c = subst D (sym is_copy) (subst C (sym is_Block) (h.1, h.2)) in (
       d,
       y.1 ∙ ap (λ (v : Both). Some v) back,
       stays,

@@ -16,7 +16,7 @@ use Rattle.journal.specs.Journal.{holds, count, book_of, puts_of}
 use Rattle.journal.specs.declared.plan.Plan.TheVariants.{Nothing}
 use Rattle.engine.specs.declared.work.Work.{Work}
 use Rattle.engine.specs.declared.call.Reply.{Reply}
-use Rattle.engine.specs.declared.call.Reply.TheVariants.{Refused, Done, Page as Page-read, Number}
+use Rattle.engine.specs.declared.call.Reply.TheVariants.{Refused, Done, Page as PageRead, Number}
 use Rattle.engine.specs.declared.call.Turn.{Turn}
 use Rattle.engine.specs.Works.{work_writes}
 
@@ -32,7 +32,7 @@ Agree d b = (d.first.lives ≡ true → d.first.has ≡ b) × (d.second.lives �
 abbrev pub reply_means : Reply → Page → book.Answer
 reply_means (Refused r) p = book.refused (refusal_number r) (refusal_place r)
 reply_means Done p = book.done
-reply_means Page-read p = book.page p
+reply_means PageRead p = book.page p
 reply_means (Number n) p = book.number n
 
 -- a block for what comes with a call: a page's bytes, if they are a page's

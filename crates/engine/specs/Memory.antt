@@ -7,7 +7,7 @@ use Rattle.journal.specs.declared.plan.Plan.{Plan}
 use Rattle.journal.specs.declared.plan.Plan.TheVariants.{Nothing, Write, Close, Replay, Make}
 use Rattle.engine.specs.declared.work.Work.{Work}
 use Rattle.engine.specs.declared.call.Reply.{Reply}
-use Rattle.engine.specs.declared.call.Reply.TheVariants.{Refused, Done, Page as Page-read, Number}
+use Rattle.engine.specs.declared.call.Reply.TheVariants.{Refused, Done, Page as PageRead, Number}
 
 -- bytes as one number, low byte first
 unfoldable pub number_of : List ℕ → ℕ
@@ -40,7 +40,7 @@ abbrev pub reply_numbers : Option Reply → List ℕ
 reply_numbers None = 0 ∷ []
 reply_numbers (Some (Refused r)) = 1 ∷ (refusal_number r ∷ (refusal_place r ∷ []))
 reply_numbers (Some Done) = 2 ∷ []
-reply_numbers (Some Page-read) = 3 ∷ []
+reply_numbers (Some PageRead) = 3 ∷ []
 reply_numbers (Some (Number n)) = 4 ∷ (n ∷ [])
 
 -- the reply, the work, the block held for the second disk, and the page beside the reply

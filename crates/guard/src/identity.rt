@@ -20,8 +20,6 @@ pub struct Known {
     pub size: u64,
     // A plain file, and no folder, device or pipe.
     pub is_plain: bool,
-    // How many names it has; a hard link is one more.
-    pub names: u64,
 }
 
 // The bits of a file's mode that say what it is, and what they are of a plain file.
@@ -45,7 +43,6 @@ fn told(found: &Metadata) -> Known {
         },
         size: found.len(),
         is_plain: is_regular(found.mode()),
-        names: found.nlink(),
     }
 }
 

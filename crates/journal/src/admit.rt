@@ -4,11 +4,11 @@
 // that hasn't 1,024 bytes; a page that is not there; a write when the log is full. Only the last asks for the
 // log, so all others are told without a look at the disks.
 ghost use Rattle.std.specs.Prelude.{◌≡◌, ◌<◌, ◌≤◌, true, false, List, length, MatchOption, MatchResult, ◌==◌};
-ghost use Rattle.model.specs.Numbers.{room as the-room};
+ghost use Rattle.model.specs.Numbers.{room as the_room};
 ghost use Rattle.model.specs.Book.{Page};
 ghost use Rattle.wire.specs.Calls.{meant};
 ghost use Rattle.wire.specs.Answers.{refusal_number, refusal_place};
-ghost use Rattle.journal.specs.Journal.{holds, count as count-on, call_puts, recovery};
+ghost use Rattle.journal.specs.Journal.{holds, count as count_on, call_puts, recovery};
 ghost use Rattle.journal.specs.Plans.{fits, plan_puts};
 ghost use Rattle.journal.specs.Admission.{early, late, Gives, RefusalsAre};
 
@@ -38,7 +38,7 @@ fn there(page: u32, pages: u32) -> Option<u32>
 
 // How many writes are in the log, if there is room for one more.
 fn with_room(count: u32) -> Option<u32>
-    ensures { MatchOption result (the-room ≤ count) (λ x. (x ≡ count) × (count < the-room)) }
+    ensures { MatchOption result (the_room ≤ count) (λ x. (x ≡ count) × (count < the_room)) }
 {
     if count < Layout::ROOM {
         Some(count)
@@ -78,7 +78,7 @@ pub fn admit<'a>(pages: u32, call: Call<'a>) -> Result<Call<'a>, Refusal>
 pub fn plan(log: Log, call: Call<'_>) -> Result<Plan, Refusal>
     ensures { MatchResult result
         (λ p. (late log.count (meant call.entry) ≡ 0) × (fits p ≡ true)
-        × ((b : List Page) (given : Page) → count-on b ≡ log.count → Gives (meant call.entry) given → plan_puts p given b ≡ call_puts b (meant call.entry)))
+        × ((b : List Page) (given : Page) → count_on b ≡ log.count → Gives (meant call.entry) given → plan_puts p given b ≡ call_puts b (meant call.entry)))
         (λ e. (refusal_number e ≡ late log.count (meant call.entry)) × (refusal_place e ≡ 0)) }
 {
     match call {
@@ -96,7 +96,7 @@ pub fn plan(log: Log, call: Call<'_>) -> Result<Plan, Refusal>
 // What recovery puts on the disk, by the log as power left it.
 pub fn replay(log: Log) -> Plan
     ensures fits { fits result ≡ true }
-    ensures puts { (b : List Page) (given : Page) → holds b ≡ log.holds → count-on b ≡ log.count → plan_puts result given b ≡ recovery b }
+    ensures puts { (b : List Page) (given : Page) → holds b ≡ log.holds → count_on b ≡ log.count → plan_puts result given b ≡ recovery b }
 {
     if log.holds {
         return Plan::Replay { count: log.count };

@@ -5,7 +5,7 @@
 use Rattle.std.specs.Prelude.{ℕ, zero, suc, Bool, true, cond, ◌&&◌, ◌||◌, List, [], ◌∷◌, length, ◌==◌, nat_lt}
 use Rattle.model.specs.Numbers.{page_size, room}
 
--- a page is a list of bytes; a good one has page-size of them
+-- a page is a list of bytes; a good one has page_size of them
 abbrev pub Page : Type 0
 Page = List ℕ
 

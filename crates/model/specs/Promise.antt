@@ -4,7 +4,7 @@ use Rattle.model.specs.Numbers.{most_pages}
 use Rattle.model.specs.Book.{Page, Call, Limits, Book, new_book, answer, after, dropped}
 use Rattle.model.specs.Disks.{Medium, Program, Happening, was_told, was_cut, power_went, World, Lived}
 
--- a number of pages from 1 to most-pages, and the calls that a stage can do
+-- a number of pages from 1 to most_pages, and the calls that a stage can do
 abbrev pub GoodLimits : (ℕ → Bool) → Limits → Type 0
 GoodLimits can l = (1 ≤ l.pages) × (l.pages ≤ most_pages) × ((k : ℕ) → l.calls_can k ≡ can k)
 

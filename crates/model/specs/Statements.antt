@@ -6,7 +6,7 @@ use Rattle.model.specs.Book.{Page, empty_page, many, Call, read, write, close, s
 use Rattle.model.specs.Disks.{Disk, Medium, wrote_all, alive, seen, Program, Happening, was_told, was_cut, power_went, World, Fit, Lived}
 use Rattle.model.specs.Promise.{GoodLimits, Leads, Explains, from_block, differ}
 
--- a number of pages from 1 to most-pages, whichever calls a register knows
+-- a number of pages from 1 to most_pages, whichever calls a register knows
 abbrev pub GoodSize : Limits → Type 0
 GoodSize l = (1 ≤ l.pages) × (l.pages ≤ most_pages)
 
@@ -18,7 +18,7 @@ AllLive R (d ∷ ds) = (d.lives ≡ true → R d.has) × AllLive R ds
 abbrev pub AtRest : {S I : Type 0} → World S I → Type 0
 AtRest w = (w.up ≡ true) × (w.todo ≡ []) × (w.under ≡ [])
 
--- at rest the pages that hold stand on each living disk from first-page on
+-- at rest the pages that hold stand on each living disk from first_page on
 unfoldable pub PagesStand : {S I : Type 0} → Medium S I → Program I → Type 0
 PagesStand {S} {I} M f =
     (l : Limits) (w : World S I) → GoodSize l → Lived M f l w → AtRest w →

@@ -1,6 +1,5 @@
 // Changing some pages at once: all of them, or none.
 use crate::calls::{close, write_page};
-use crate::open::Files;
 use crate::order::Change;
 use crate::start::Register;
 use crate::stop::{Stop, refuse};
@@ -74,9 +73,15 @@ pub fn read_files(
 }
 
 // Refuses a change of a page that is not there.
-pub fn refuse_outside(rt: &HostRuntime, changes: &Vec<Change>, files: &Files) -> Result<(), Stop> {
+pub fn refuse_outside(rt: &HostRuntime, changes: &Vec<Change>, pages: u32) -> Result<(), Stop> {
     for change in changes.iter() {
-        files.refuse_outside(rt, change.page)?;
+        let page = change.page;
+        if page >= pages {
+            return Err(refuse(
+                rt,
+                format_args!("there is no page {page}; the register has {pages}, from 0 on"),
+            ));
+        }
     }
     Ok(())
 }

@@ -45,11 +45,7 @@ fn run(rt: &HostRuntime) -> Result<(), Stop> {
     match command {
         Command::Help => help::show_help(rt),
         Command::Serve { disks } => serve::serve(rt, &mut begin(rt, &disks, trace)?),
-        Command::Read { disks, page } => {
-            let files = open_files(rt, &disks)?;
-            files.refuse_outside(rt, page)?;
-            show_page(rt, &mut start::start(rt, files, trace)?, page)
-        }
+        Command::Read { disks, page } => show_page(rt, &mut begin(rt, &disks, trace)?, page),
         Command::New { disks, pages } => make::make_disks(rt, &disks, pages, trace),
         Command::Change {
             disks,
@@ -58,7 +54,7 @@ fn run(rt: &HostRuntime) -> Result<(), Stop> {
         } => {
             let pages = change::read_files(rt, &changes, pad)?;
             let files = open_files(rt, &disks)?;
-            change::refuse_outside(rt, &changes, &files)?;
+            change::refuse_outside(rt, &changes, files.pages)?;
             change::change_pages(rt, &mut start::start(rt, files, trace)?, &pages)
         }
         Command::Check { disks } => check::tell(rt, &mut begin(rt, &disks, trace)?),

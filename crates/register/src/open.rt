@@ -20,8 +20,6 @@ pub struct Opened {
     pub name: String,
     pub blocks: u64,
     identity: Identity,
-    // How many names the file has.
-    names: u64,
 }
 
 // Both files, None for a disk that was said to be dead; and how many pages they hold.
@@ -30,20 +28,6 @@ pub struct Files {
     pub first: Option<Opened>,
     pub second: Option<Opened>,
     pub pages: u32,
-}
-
-impl Files {
-    // Refuses a page that is not there.
-    pub fn refuse_outside(&self, rt: &HostRuntime, page: u32) -> Result<(), Stop> {
-        let pages = self.pages;
-        if page >= pages {
-            return Err(refuse(
-                rt,
-                format_args!("there is no page {page}; the register has {pages}, from 0 on"),
-            ));
-        }
-        Ok(())
-    }
 }
 
 // What stands in place of the name of a disk that is dead.
@@ -117,7 +101,6 @@ fn open_one(rt: &HostRuntime, path: &str) -> Result<Opened, Stop> {
         name,
         blocks,
         identity: known.identity,
-        names: known.names,
     })
 }
 
@@ -169,21 +152,6 @@ fn count_pages(rt: &HostRuntime, disk: &Opened) -> Result<u32, Stop> {
     }
 }
 
-// Refuses a disk that has two names: a mark that is set beside the one is not found beside the other.
-fn has_one_name(rt: &HostRuntime, disk: &Opened) -> Result<(), Stop> {
-    if disk.names == 1 {
-        return Ok(());
-    }
-    let path = disk.path.as_str();
-    let names = disk.names;
-    Err(refuse(
-        rt,
-        format_args!(
-            "{path} has {names} names (hard links), and a mark would be found beside one of them only; give each disk one name"
-        ),
-    ))
-}
-
 // Refuses disks that another process has open to be written.
 fn alone_with(rt: &HostRuntime, files: &[Identity]) -> Result<(), Stop> {
     match another_writer(rt, files) {
@@ -204,8 +172,6 @@ fn look_at_both(rt: &HostRuntime, first: &Opened, second: &Opened) -> Result<u32
     fit_together(rt, first, second)?;
     let pages = count_pages(rt, first)?;
     alone_with(rt, &[first.identity, second.identity])?;
-    has_one_name(rt, first)?;
-    has_one_name(rt, second)?;
     Ok(pages)
 }
 
@@ -213,7 +179,6 @@ fn look_at_both(rt: &HostRuntime, first: &Opened, second: &Opened) -> Result<u32
 fn look_at_one(rt: &HostRuntime, disk: &Opened) -> Result<u32, Stop> {
     let pages = count_pages(rt, disk)?;
     alone_with(rt, &[disk.identity])?;
-    has_one_name(rt, disk)?;
     Ok(pages)
 }
 

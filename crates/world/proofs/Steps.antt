@@ -239,8 +239,8 @@ began d e n w k held t c page hs al none start q = (
       let A : Answer → Type 0 = λ a. Lived plain register l (busy [] true (u a ∷ []) hs (view d) (mirrored copies (puts_of l b c))) in
       let W : List (On Put) → Type 0 = λ ws. Lived plain register l (busy [] true (u (reply_means t.reply page) ∷ []) hs (view e) ws) in
       let by = begun_by d e t.work b held here.1 r f.3.2 f.3.3 in
-      let there-on = run_lives l [] true (u (reply_means t.reply page) ∷ []) hs (mirrored copies (puts_of l b c)) r (view_alive e there) (subst A (sym f.3.0) on) in
-      (by.0, by.1, back_to W by.2 (back_to W f.3.1 there-on)),
+      let there_on = run_lives l [] true (u (reply_means t.reply page) ∷ []) hs (mirrored copies (puts_of l b c)) r (view_alive e there) (subst A (sym f.3.0) on) in
+      (by.0, by.1, back_to W by.2 (back_to W f.3.1 there_on)),
 )
 
 -- no disk was left while it was read

@@ -4,7 +4,7 @@ use Rattle.model.specs.Book.{bytes, Call}
 use Rattle.octets.proofs.Parts.{bytes_from}
 use Rattle.device.specs.Ran.{stays}
 use Rattle.wire.specs.Calls.{meant, call_of}
-use Rattle.wire.specs.declared.call.Call.{Call as Code-call}
+use Rattle.wire.specs.declared.call.Call.{Call as CodeCall}
 use Rattle.journal.specs.Admission.{early, InBytes}
 use Rattle.engine.specs.Calling.{TurnIs}
 use Rattle.engine.proofs.Calling.{garbled_turn, refused_turn, early_refused, no_place, came_in_bytes, logs_call, begun_as, read_turn, size_turn, page_was_read}
@@ -50,7 +50,7 @@ pub returns-else-not-read : goal.returns-else-not-read
 returns-else-not-read g c d is b agree len =
     let f = c.in-Ok-admit.ensures in
     let a = c.in-Read.number in
-    let was : book.read a ≡ meant c.in-Ok.call = ap (λ (x : Code-call). meant x) (sym c.in-Read.is) ∙ f.1 in
+    let was : book.read a ≡ meant c.in-Ok.call = ap (λ (x : CodeCall). meant x) (sym c.in-Read.is) ∙ f.1 in
     let z = page_was_read _ _ c.page.result c.read.new.out _ c.read.ensures c.if-not-read.false (search rules) d is b agree in
     let P : Call → Type 0 = λ x. TurnIs c.args.pages b x c.read.new.out c.idle-in-Read.result in (
       z.0,
@@ -64,7 +64,7 @@ returns-else-not-read g c d is b agree len =
 pub returns-in-Size : goal.returns-in-Size
 returns-in-Size g c d is b agree len =
     let f = c.in-Ok-admit.ensures in
-    let was : book.size ≡ meant c.in-Ok.call = ap (λ (x : Code-call). meant x) (sym c.in-Size.is) ∙ f.1 in
+    let was : book.size ≡ meant c.in-Ok.call = ap (λ (x : CodeCall). meant x) (sym c.in-Size.is) ∙ f.1 in
     let P : Call → Type 0 = λ x. TurnIs c.args.pages b x c.args.page.now c.idle-in-Size.result in (
       d,
       is,
