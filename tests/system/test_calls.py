@@ -211,7 +211,7 @@ def test_change(register):
         ([f"{i}=a" for i in range(257)], "256 pages at most"),
         (["0=a", "--trase"], "is no option"),
         (["0=a", "--"], "-- is no option"),
-        (["0=a", ""], "an argument is empty"),
+        (["0=a", ""], "is no change"),
         (["0=long", "--pad"], "longer than a page"),
     ]
     for words, said in refused_changes:
@@ -313,7 +313,7 @@ def test_words(register):
         (["new", "first", "second", "3", "4"], "one word too many"),
         (["serve", "first", "second", "--pad"], "--pad belongs to change"),
         (["--verbose", "serve", "first", "second"], "--verbose is no option"),
-        (["serve", "", "second"], "an argument is empty"),
+        (["serve", "", "second"], "can't be opened"),
         (["serve", "fi\nrst", "second"], "control characters"),
         (["serve", "first", "sec\x7fond"], "control characters"),
         (["serve", b"\xff", "second"], "no text"),

@@ -166,7 +166,7 @@ def test_sizes_at_the_edges(register):
         for name in ("first", "second"):
             os.truncate(register.path(name), BLOCK * blocks)
         refuses(register.run("change", "first", "second", "16777216=page"), said)
-        refuses(register.run("read", "first", "second", 16777216), said)
+    refuses(register.run("read", "first", "second", 16777216), said)
 
 
 def test_names_of_disks(register):

@@ -76,9 +76,6 @@ fn sort(rt: &HostRuntime, words: &mut Words, word: String) -> Result<(), Stop> {
             "an argument has control characters, which no name here may have",
         ));
     }
-    if word.as_str().is_empty() {
-        return Err(refuse(rt, "an argument is empty"));
-    }
     match word.as_str() {
         "--trace" => words.trace = true,
         "--pad" => words.pad = true,
