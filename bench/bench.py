@@ -473,6 +473,7 @@ def about():
         "files": output("stat", "-f", "-c", "%T", DATA),
         "cc": output("cc", "--version").split("\n")[0],
         "commit": output("git", "rev-parse", "--short", "HEAD"),
+        "kit": output("rt", "version"),
     }
 
 

@@ -294,7 +294,7 @@ def document(r):
     return wrapped(f"""# Benchmark
 
 Written by `make bench`, from one run on {about["date"]} that took {r["seconds"] / 60:.0f} minutes: commit {about["commit"]},
-{about["cpu"]}, {about["cores"]} cores, Linux {about["kernel"]}, {about["files"]}, {about["cc"]}. How it is measured is in
+built with {about["kit"]}, {about["cpu"]}, {about["cores"]} cores, Linux {about["kernel"]}, {about["files"]}, {about["cc"]}. How it is measured is in
 [bench/README.md](../bench/README.md).
 
 {marks(r)}
