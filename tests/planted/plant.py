@@ -141,7 +141,7 @@ def fact(crate, name, need):
         return "what it ensures" + (f" (`{'`, `'.join(named)}`)" if named else "")
     if need.startswith("loop"):
         return "its loop's invariant"
-    if need.startswith("ghost"):
+    if need.startswith("invariant_of"):
         return "an invariant of what it makes"
     if need.endswith("-requires"):
         return f"what `{need[:-9].replace('-', '_')}` asks"
@@ -162,7 +162,7 @@ def refusals(crate, log):
         else:
             where = ", in its proof" if " has no " not in line["said"] else ", by a name in its proof alone"
             function, _, file = line["path"].rpartition("/")
-            law = file != "Answers"
+            law = file != "Answers" or not function
             found.append((f"proofs/{line['path']}" if law else f"{crate}::" + function.replace("/", "::"), line["of"] or "", where))
     return sorted(found, key=lambda one: "alone" in one[2])
 
@@ -276,7 +276,8 @@ def gate_found(printed, bug):
     if not missed:
         return told(bug, line[1])
     module, name = bug.places[0]
-    return f"`{module}::{name}`: {fact(bug.crate, name, missed[1])}"
+    above = [bug.crate] if module == bug.crate else [bug.crate, module]
+    return f"`{'::'.join([*above, name])}`: {fact(bug.crate, name, missed[1])}"
 
 
 def make_copy(copy):
