@@ -2,7 +2,7 @@
 # Bugs that `simulator --every` has to find. Each file here that ends in .patch is one: what it breaks, the script
 # that it is played on, and the edit. It is planted in a copy of the code, and the script is played there with mishaps
 # at every moment, by the simulator without its proof, which would refuse it. The world that is found is shown. Before
-# that the code as it is plays all the scripts, and nothing may be found.
+# that the code as it is plays the same scripts, and nothing may be found.
 #
 #     tests/planted-plays/find.sh [NAME ..]      these bugs; all of them where none is named
 #
@@ -27,12 +27,17 @@ finds() {
     grep -q 'FAILS:' "$work/found"
 }
 
+# The script that a bug is played on.
+script_of() {
+    sed -n 's/^script: //p' "$here/$1.patch"
+}
+
 [ $# -gt 0 ] || set -- $(cd "$here" && ls *.patch | sed 's/\.patch$//')
 missed=0
 
 copy
-for script in "$here"/*.sim; do
-    if finds "$(basename "$script")"; then
+for script in $(for name; do script_of "$name"; done | sort -u); do
+    if finds "$script"; then
         cat "$work/found"
         echo "with nothing planted, something is found"
         exit 1
@@ -44,7 +49,7 @@ for name; do
     copy
     patch -s -p1 -d "$work/code" <"$here/$name.patch"
     printf '\n%s\n' "$name"
-    if finds "$(sed -n 's/^script: //p' "$here/$name.patch")"; then
+    if finds "$(script_of "$name")"; then
         sed 's/^/    /' "$work/found"
     else
         echo "    not found"
