@@ -6,7 +6,8 @@
 #
 #     tests/planted-plays/find.sh [NAME ..]      these bugs; all of them where none is named
 #
-# Status 0: all were found, and nothing else. What is unproved is run with checks of each step, and takes minutes.
+# Status 0: all were found, and nothing else. What is unproved is run with checks of each step: seven minutes for the
+# shortest script, and far more for the others.
 set -eu
 here=$(cd "$(dirname "$0")" && pwd)
 root=$(dirname "$(dirname "$here")")
@@ -22,7 +23,7 @@ copy() {
 
 # Plays a script at every moment in the copy. True: a world was found in which something fails.
 finds() {
-    (cd "$work/code/crates/simulator" && rt try --steps 1 --seconds 1800 --data "$1=$here/$1" -- --every "$1") >"$work/found" 2>&1 || true
+    (cd "$work/code/crates/simulator" && rt try --steps 1 --seconds 14400 --data "$1=$here/$1" -- --every "$1") >"$work/found" 2>&1 || true
     grep -q 'nothing fails' "$work/found" || grep -q 'FAILS:' "$work/found" || { cat "$work/found"; exit 2; }
     grep -q 'FAILS:' "$work/found"
 }
