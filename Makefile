@@ -1,5 +1,5 @@
 # make run          build the proved programs, and show a sale of three pages on two disk files
-# make test         the gate: everything proved from nothing, programs and tests run
+# make test         the gate: everything proved, programs and tests run
 # make system-test  the built program on real files, killed and failed at every write
 # make planted      plants each bug of tests/planted in a copy, and tells what catches it; takes hours
 # make planted-plays  builds six bugs without their proof, and has each found by playing at every moment

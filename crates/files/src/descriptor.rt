@@ -2,7 +2,7 @@
 //
 // A call moves all the bytes that it was lent or counts as failed: a file that gives or takes fewer is no
 // disk. The number of an error is the system's, or 0 where fewer bytes were moved and no error was told.
-ghost use Rattle.std.specs.Prelude.{◌≡◌, ◌≢◌, negsuc, MatchResult, IsOkAnd, IsErr, None};
+ghost use Rattle.std.specs.Prelude.{◌≡◌, ◌≢◌, negsuc, MatchResult, IsOkAnd, None};
 ghost use Rattle.files.specs.System.{error_number, number_of};
 
 use crate::errors::{EBADF, error_number};
@@ -75,14 +75,14 @@ impl Descriptor {
 
     // The file that calls are made on, if there is one.
     fn file(&self) -> Result<&File, i32>
-        ensures { MatchResult result (λ file. self.now.file ≡ Some file.now) (λ _. self.now.file ≡ None) }
+        ensures { MatchResult result (λ file. self.now.file ≡ Some file.now) (λ error. (error ≡ EBADF) × (self.now.file ≡ None)) }
     {
         self.file.as_ref().ok_or(EBADF)
     }
 
     // Fills what is lent from a place in the file.
     pub fn read_at(&self, out: &mut [u8], at: i64) -> Result<(), i32>
-        ensures { self.now.file ≡ None → IsErr result }
+        ensures { self.now.file ≡ None → result ≡ Err EBADF }
     {
         let got = self.file()?.read_at(out, at.cast_unsigned());
         moved(got, out.len())
@@ -90,7 +90,7 @@ impl Descriptor {
 
     // Writes what is lent at a place in the file.
     pub fn write_at(&self, bytes: &[u8], at: i64) -> Result<(), i32>
-        ensures { self.now.file ≡ None → IsErr result }
+        ensures { self.now.file ≡ None → result ≡ Err EBADF }
     {
         let put = self.file()?.write_at(bytes, at.cast_unsigned());
         moved(put, bytes.len())
@@ -98,27 +98,27 @@ impl Descriptor {
 
     // Waits until all that was written lasts.
     pub fn sync_data(&self) -> Result<(), i32>
-        ensures { self.now.file ≡ None → IsErr result }
+        ensures { self.now.file ≡ None → result ≡ Err EBADF }
     {
         done(self.file()?.sync_data())
     }
 
     // The same, with the file's length and a folder's names.
     pub fn sync(&self) -> Result<(), i32>
-        ensures { self.now.file ≡ None → IsErr result }
+        ensures { self.now.file ≡ None → result ≡ Err EBADF }
     {
         done(self.file()?.sync_all())
     }
 
     pub fn set_len(&self, bytes: i64) -> Result<(), i32>
-        ensures { self.now.file ≡ None → IsErr result }
+        ensures { self.now.file ≡ None → result ≡ Err EBADF }
     {
         done(self.file()?.set_len(bytes.cast_unsigned()))
     }
 
     // What the system knows of the file.
     pub fn metadata(&self) -> Result<Metadata, i32>
-        ensures { self.now.file ≡ None → IsErr result }
+        ensures { self.now.file ≡ None → result ≡ Err EBADF }
     {
         self.file()?.metadata().map_err(error_number)
     }
