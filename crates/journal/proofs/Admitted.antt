@@ -2,6 +2,8 @@
 -- journal says.
 use Rattle.std.proofs.Common.{◌≡◌, ℕ, Bool, true, false, cond, ◌&&◌, eqb, ltb, List, length, sym, refl}
 use Rattle.model.specs.Numbers.{room}
+use Rattle.layout.specs.declared.count.Count.{Count}
+use Rattle.layout.specs.declared.count.Slot.{Slot}
 use Rattle.model.specs.Book.{Page, call_number, good_fields, turned_by, read, write, close, size, garbled}
 use Rattle.journal.specs.Journal.{holds, count, entries_from, recovery, call_puts}
 use Rattle.journal.specs.Plans.{plan_puts}
@@ -29,17 +31,17 @@ refusals_are l b close k h = simp k
 refusals_are l b size k h = simp k
 refusals_are l b (garbled n) k h = refl
 
-pub write_planned : (b : List Page) (n page : ℕ) (given p : Page) → count b ≡ n → given ≡ p → plan_puts (Write n page) given b ≡ call_puts b (write page p)
+pub write_planned : (b : List Page) (n : Slot) (page : ℕ) (given p : Page) → count b ≡ n.place → given ≡ p → plan_puts (Write n page) given b ≡ call_puts b (write page p)
 unfolding call_puts
 write_planned b n page given p e f = rw (sym e, f)
 
-pub close_planned : (b : List Page) (n : ℕ) (p : Page) → count b ≡ n → plan_puts (Close n) p b ≡ call_puts b close
+pub close_planned : (b : List Page) (n : Count) (p : Page) → count b ≡ n.writes → plan_puts (Close n) p b ≡ call_puts b close
 unfolding call_puts
 close_planned b n p e = rw (sym e)
 
-pub replay_planned : (b : List Page) (n : ℕ) (p : Page) → holds b ≡ true → count b ≡ n → plan_puts (Replay n) p b ≡ recovery b
+pub replay_planned : (b : List Page) (n : Count) (p : Page) → holds b ≡ true → count b ≡ n.writes → plan_puts (Replay n) p b ≡ recovery b
 replay_planned b n p h e = rw (h, sym e)
 
-pub nothing_planned : (b : List Page) (p : Page) → holds b ≡ false → plan_puts (Replay 0) p b ≡ recovery b
+pub nothing_planned : (b : List Page) (n : Count) (p : Page) → n.writes ≡ 0 → holds b ≡ false → plan_puts (Replay n) p b ≡ recovery b
 unfolding entries_from
-nothing_planned b p h = rw h
+nothing_planned b n p e h = rw (e, h)

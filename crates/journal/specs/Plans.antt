@@ -1,6 +1,5 @@
 -- What a plan's steps mean, by the disk as it was when the plan was worked out. Definitions only.
-use Rattle.std.specs.Prelude.{◌≡◌, ℕ, suc, ◌+◌, ◌<◌, Bool, true, false, List, [], ◌∷◌, ◌++◌, nat_le, nat_lt}
-use Rattle.model.specs.Numbers.{room, first_page, most_pages}
+use Rattle.std.specs.Prelude.{◌≡◌, ℕ, suc, ◌+◌, Bool, true, false, List, [], ◌∷◌, ◌++◌, nat_lt}
 use Rattle.model.specs.Book.{Page, empty_page, nth}
 use Rattle.model.specs.Plain.{Put}
 use Rattle.layout.specs.Header.{header_block}
@@ -12,52 +11,36 @@ use Rattle.journal.specs.declared.plan.Step.{Step}
 use Rattle.journal.specs.declared.plan.Plan.{Plan}
 use Rattle.journal.specs.declared.plan.Plan.TheVariants.{Nothing, Write, Close, Replay, Make}
 
--- a plan that the journal works out: the log has room, and disks are not longer than they may be
-abbrev pub fits : Plan → Bool
-fits Nothing = true
-fits (Write n p) = nat_lt n room
-fits (Close n) = nat_le n room
-fits (Replay n) = nat_le n room
-fits (Make k) = nat_le k (most_pages + first_page)
-
--- a kind whose place in the list is one
-abbrev pub Placed : Kind → Type 0
-Placed (Header h n) = Unit {0}
-Placed (Listing i p) = i < room
-Placed Given = Unit {0}
-Placed (Logged i) = Unit {0}
-Placed Empty = Unit {0}
-
 -- a plan that brings pages of the log to their places
 abbrev pub replays : Plan → Bool
 replays Nothing = false
 replays (Write n p) = false
-replays (Close n) = nat_lt 0 n
-replays (Replay n) = nat_lt 0 n
+replays (Close n) = nat_lt 0 n.writes
+replays (Replay n) = nat_lt 0 n.writes
 replays (Make k) = false
 
--- what is read off the log is read by a plan that replays it, and lies in the log
+-- what is read off the log is read by a plan that replays it
 abbrev pub ReadsLog : Plan → Kind → Type 0
-ReadsLog q (Header h n) = Unit {0}
+ReadsLog q (Header h) = Unit {0}
 ReadsLog q (Listing i p) = Unit {0}
 ReadsLog q Given = Unit {0}
-ReadsLog q (Logged i) = (replays q ≡ true) × (i < room)
+ReadsLog q (Logged i) = replays q ≡ true
 ReadsLog q Empty = Unit {0}
 
 -- the block that has the bytes of a kind that is read off the log
 abbrev pub LogBlock : Kind → ℕ → Type 0
-LogBlock (Header h n) k = ⊥
+LogBlock (Header h) k = ⊥
 LogBlock (Listing i p) k = ⊥
 LogBlock Given k = ⊥
-LogBlock (Logged i) k = k ≡ 2 + i
+LogBlock (Logged i) k = k ≡ 2 + i.place
 LogBlock Empty k = ⊥
 
 -- the bytes of a kind; given: what came with the write
 abbrev pub content : Page → List Page → Kind → Page
-content given b (Header h n) = header_block h n
-content given b (Listing i p) = list_with (nth b 1) i p
+content given b (Header h) = header_block h.holds h.count
+content given b (Listing i p) = list_with (nth b 1) i.place p
 content given b Given = given
-content given b (Logged i) = nth b (2 + i)
+content given b (Logged i) = nth b (2 + i.place)
 content given b Empty = empty_page
 
 abbrev pub step_put : Page → List Page → Step → Put
@@ -67,7 +50,7 @@ step_put given b s = record { block = s.block; content = content given b s.kind 
 abbrev pub plan_puts : Plan → Page → List Page → List Put
 plan_puts Nothing given b = []
 plan_puts (Write n p) given b =
-    header_put false (suc n) ∷ record { block = 1; content = list_with (nth b 1) n p } ∷ record { block = 2 + n; content = given } ∷ []
-plan_puts (Close n) given b = header_put true n ∷ (entries_from b 0 n ++ (header_put false 0 ∷ []))
-plan_puts (Replay n) given b = entries_from b 0 n ++ (header_put false 0 ∷ [])
-plan_puts (Make k) given b = blank_puts 0 k
+    header_put false (suc n.place) ∷ record { block = 1; content = list_with (nth b 1) n.place p } ∷ record { block = 2 + n.place; content = given } ∷ []
+plan_puts (Close n) given b = header_put true n.writes ∷ (entries_from b 0 n.writes ++ (header_put false 0 ∷ []))
+plan_puts (Replay n) given b = entries_from b 0 n.writes ++ (header_put false 0 ∷ [])
+plan_puts (Make k) given b = blank_puts 0 k.blocks

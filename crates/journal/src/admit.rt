@@ -3,49 +3,20 @@
 // The refusals are checked in one order, and the first that applies is told: bytes that are no call; a page
 // that hasn't 1,024 bytes; a page that is not there; a write when the log is full. Only the last asks for the
 // log, so all others are told without a look at the disks.
-ghost use Rattle.std.specs.Prelude.{◌≡◌, ◌<◌, ◌≤◌, true, false, List, length, MatchOption, MatchResult, ◌==◌};
-ghost use Rattle.model.specs.Numbers.{room as the_room};
+ghost use Rattle.std.specs.Prelude.{◌≡◌, List, MatchResult};
 ghost use Rattle.model.specs.Book.{Page};
 ghost use Rattle.wire.specs.Calls.{meant};
 ghost use Rattle.wire.specs.Answers.{refusal_number, refusal_place};
 ghost use Rattle.journal.specs.Journal.{holds, count as count_on, call_puts, recovery};
-ghost use Rattle.journal.specs.Plans.{fits, plan_puts};
+ghost use Rattle.journal.specs.Plans.{plan_puts};
 ghost use Rattle.journal.specs.Admission.{early, late, Gives, RefusalsAre};
 
 use crate::plan::Plan;
+use layout::count::Count;
 use layout::log::Log;
-use layout::places::Layout;
+use octets::BLOCK;
 use wire::answer::Refusal;
 use wire::call::Call;
-
-// The bytes of a page, if they are a whole one.
-fn whole(bytes: &[u8]) -> Option<&[u8]>
-    ensures { MatchOption result ((length bytes.now == 1024) ≡ false) (λ x. ((length bytes.now == 1024) ≡ true) × (x.now ≡ bytes.now)) }
-{
-    if bytes.len() == 1024 {
-        Some(bytes)
-    } else {
-        None
-    }
-}
-
-// A page's number, if there is such a page.
-fn there(page: u32, pages: u32) -> Option<u32>
-    ensures { MatchOption result (pages ≤ page) (λ x. (x ≡ page) × (page < pages)) }
-{
-    if page < pages { Some(page) } else { None }
-}
-
-// How many writes are in the log, if there is room for one more.
-fn with_room(count: u32) -> Option<u32>
-    ensures { MatchOption result (the_room ≤ count) (λ x. (x ≡ count) × (count < the_room)) }
-{
-    if count < Layout::ROOM {
-        Some(count)
-    } else {
-        None
-    }
-}
 
 // The call itself, or why it is refused before the log is looked at.
 pub fn admit<'a>(pages: u32, call: Call<'a>) -> Result<Call<'a>, Refusal>
@@ -54,39 +25,23 @@ pub fn admit<'a>(pages: u32, call: Call<'a>) -> Result<Call<'a>, Refusal>
         (λ e. (refusal_number e ≡ early pages (meant call.entry)) × (refusal_place e ≡ 0)) }
 {
     match call {
-        Call::Read { page } => {
-            let Some(page) = there(page, pages) else {
-                return Err(Refusal::NoSuchPage);
-            };
-            Ok(Call::Read { page })
-        }
-        Call::Write { page, bytes } => {
-            let Some(bytes) = whole(bytes) else {
-                return Err(Refusal::Unfit);
-            };
-            let Some(page) = there(page, pages) else {
-                return Err(Refusal::NoSuchPage);
-            };
-            Ok(Call::Write { page, bytes })
-        }
-        Call::Close => Ok(Call::Close),
-        Call::Size => Ok(Call::Size),
+        Call::Write { bytes, .. } if bytes.len() != BLOCK => Err(Refusal::Unfit),
+        Call::Read { page } | Call::Write { page, .. } if page >= pages => Err(Refusal::NoSuchPage),
+        _ => Ok(call),
     }
 }
 
 // What an admitted call puts on the disk, by the log as it is now, or that the log is full.
 pub fn plan(log: Log, call: Call<'_>) -> Result<Plan, Refusal>
     ensures { MatchResult result
-        (λ p. (late log.count (meant call.entry) ≡ 0) × (fits p ≡ true)
-        × ((b : List Page) (given : Page) → count_on b ≡ log.count → Gives (meant call.entry) given → plan_puts p given b ≡ call_puts b (meant call.entry)))
-        (λ e. (refusal_number e ≡ late log.count (meant call.entry)) × (refusal_place e ≡ 0)) }
+        (λ p. (late log.count.writes (meant call.entry) ≡ 0)
+        × ((b : List Page) (given : Page) → count_on b ≡ log.count.writes → Gives (meant call.entry) given → plan_puts p given b ≡ call_puts b (meant call.entry)))
+        (λ e. (refusal_number e ≡ late log.count.writes (meant call.entry)) × (refusal_place e ≡ 0)) }
 {
     match call {
         Call::Write { page, .. } => {
-            let Some(count) = with_room(log.count) else {
-                return Err(Refusal::LogFull);
-            };
-            Ok(Plan::Write { count, page })
+            let slot = log.count.next().ok_or(Refusal::LogFull)?;
+            Ok(Plan::Write { slot, page })
         }
         Call::Close => Ok(Plan::Close { count: log.count }),
         Call::Read { .. } | Call::Size => Ok(Plan::Nothing),
@@ -95,18 +50,15 @@ pub fn plan(log: Log, call: Call<'_>) -> Result<Plan, Refusal>
 
 // What recovery puts on the disk, by the log as power left it.
 pub fn replay(log: Log) -> Plan
-    ensures fits { fits result ≡ true }
-    ensures puts { (b : List Page) (given : Page) → holds b ≡ log.holds → count_on b ≡ log.count → plan_puts result given b ≡ recovery b }
+    ensures { (b : List Page) (given : Page) → holds b ≡ log.holds → count_on b ≡ log.count.writes → plan_puts result given b ≡ recovery b }
 {
     if log.holds {
         return Plan::Replay { count: log.count };
     }
-    Plan::Replay { count: 0 }
+    Plan::Replay { count: Count::NONE }
 }
 
 // The refusals that these functions tell are the book's, in its order.
-pub fn refusals_stand() -> u8
+pub fn refusals_stand()
     ensures { RefusalsAre }
-{
-    0
-}
+{}

@@ -1,8 +1,11 @@
 -- The journal's own blocks: what was written into the header and the list is read back, what stands beside
 -- it stays, and both are good pages. A header whose count is in range and whose list names pages of the
 -- book is read as it was written; an empty block is such a header.
-use Rattle.std.proofs.Common.{◌≡◌, ℕ, zero, suc, ◌+◌, ◌*◌, ◌/◌, ◌%◌, ◌<◌, ◌≤◌, Bool, true, false, cond, eqb, ltb, ◌≢◌, ◌⊎◌, List, [], ◌∷◌, ◌++◌, length, take, drop, refl, ap, ◌∙◌, inl, inr, arith}
-use Rattle.std.proofs.lemmas.Bool.{eq-eqb, eqb-true, lt-ltb, le-leb, leb-true, and_parts, and_from, cond-true, cases_order}
+use Rattle.std.specs.List.{range_with_len, AllWithin, HoldsAt}
+use Rattle.std.proofs.Math.Bool.{and-false}
+use Rattle.std.proofs.lemmas.List.FromFn.{length-range_with_len, get_or-range_with_len}
+use Rattle.std.proofs.Common.{MatchBool, slice_index_or, zero-add, subst, sym, ◌≡◌, ℕ, zero, suc, ◌+◌, ◌*◌, ◌/◌, ◌%◌, ◌<◌, ◌≤◌, Bool, true, false, cond, eqb, ltb, ◌≢◌, ◌⊎◌, List, [], ◌∷◌, ◌++◌, length, take, drop, refl, ap, ◌∙◌, inl, inr, arith}
+use Rattle.std.proofs.lemmas.Bool.{eq-eqb, eqb-true, lt-ltb, le-ltb, le-leb, leb-true, and_parts, and_from, cond-true, cases_order}
 use Rattle.model.specs.Numbers.{page_size, room}
 use Rattle.model.specs.Book.{Page, empty_page, many, bytes, good_page}
 use Rattle.model.proofs.Lists.{length_many, getD_many}
@@ -107,6 +110,32 @@ below_from : (list : Page) (pages n : ℕ) → ((i : ℕ) → i < n → listed l
 unfolding listed_below
 below_from list pages zero h = refl
 below_from list pages (suc n) h = and_from _ _ (below_from list pages n (λ i q. h i (omega arith))) (lt-ltb _ _ (h n (omega arith)))
+
+above_from : (list : Page) (pages n k : ℕ) → k < n → pages ≤ listed list k → listed_below list pages n ≡ false
+unfolding listed_below
+above_from list pages zero k h l = absurd (omega arith)
+above_from list pages (suc n) k h l = last (cases_order k n) (λ q. above_from list pages n k q l)
+  where
+    last : (k ≡ n) ⊎ ((k < n) ⊎ (n < k)) → (k < n → listed_below list pages n ≡ false) → listed_below list pages (suc n) ≡ false
+    last (inl e) f = rw (← e, le-ltb (listed list k) pages l, and-false (listed_below list pages k))
+    last (inr (inl q)) f = rw (f q)
+    last (inr (inr q)) f = absurd (omega arith)
+
+-- what looking at each of the first pages tells
+pub below_is :
+    (list : Page) (pages n : ℕ) (r : Bool) →
+    MatchBool r (AllWithin (λ i. listed list i < pages) (range_with_len 0 n) 0 (length (range_with_len 0 n)))
+    ((k : ℕ) × (k < length (range_with_len 0 n)) × HoldsAt (λ i. pages ≤ listed list i) (range_with_len 0 n) k) →
+    r ≡ listed_below list pages n
+below_is list pages n true h =
+    sym (below_from list pages n (λ i q. subst (λ (z : ℕ). listed list z < pages) (at_place i q) (h i 0 (omega arith) (rw (length-range_with_len 0 n) q))))
+  where
+    at_place : (i : ℕ) → i < n → slice_index_or (range_with_len 0 n) i 0 ≡ i
+    at_place i q = get_or-range_with_len 0 n i 0 q ∙ zero-add i
+below_is list pages n false (k, q, h) =
+    let l : k < n = subst (λ (z : ℕ). k < z) (length-range_with_len 0 n) q in
+    let e : slice_index_or (range_with_len 0 n) k 0 ≡ k = get_or-range_with_len 0 n k 0 l ∙ zero-add k in
+    sym (above_from list pages n k l (subst (λ (z : ℕ). pages ≤ listed list z) e (h 0)))
 
 module _ (header list : Page) (pages : ℕ) (flag : flag_in header ≤ 1) (few : count_in header ≤ room) (inside : (i : ℕ) → i < room → listed list i < pages) where
   pub sane_from : sane header list pages ≡ true

@@ -4,6 +4,7 @@
 // crate knows a block's number or the bytes of a header; all else speaks of headers, lists and pages.
 #![tactic(auto)]
 
+pub mod count;
 pub mod header;
 pub mod list;
 pub mod log;

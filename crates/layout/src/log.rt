@@ -3,51 +3,110 @@
 // A register writes only headers of one kind: first byte 0 or 1, a count of at most 256, pages of the book
 // in the list. Any other header is met by total code all the same: it is read as an empty one, so that
 // every plan is bounded and stays within the disk, whatever the disks hold.
-ghost use Rattle.std.specs.Prelude.{◌≡◌, ◌≤◌, length};
-ghost use Rattle.model.specs.Numbers.{room};
-ghost use Rattle.layout.specs.Reading.{sane, log_holds, log_count};
+ghost use Rattle.std.specs.Prelude.{◌≡◌, true, false, length, MatchResult, Some};
+ghost use Rattle.octets.specs.Words.{part};
+ghost use Rattle.layout.specs.Reading.{sane, log_holds, log_count, strange_text};
 
+use crate::count::Count;
 use crate::header::{count_of, flag_of};
 use crate::list::all_below;
-use crate::places::Layout;
+use octets::{BLOCK, Block};
+use std::fmt;
 
+// A flag beside the count, and no enum: so many writes are there whether the log holds or not.
 #[derive(Clone, Copy, PartialEq, Eq, Debug)]
 pub struct Log {
     // A close was begun, and its pages are to be brought to their places.
     pub holds: bool,
     // How many writes are in the log.
-    pub count: u32,
-    ghost few: { count ≤ room },
+    pub count: Count,
 }
 
-// Whether a register with so many pages may have written this header.
-pub fn is_sane(header: &[u8], list: &[u8], pages: u32) -> bool
-    requires { (length header.now ≡ 1024) × (length list.now ≡ 1024) }
-    ensures { result ≡ sane header.now list.now pages }
-{
-    let count = count_of(header);
-    if flag_of(header) > 1 || count > Layout::ROOM {
-        return false;
+// Why no register wrote a header and a list.
+#[derive(Clone, Copy, PartialEq, Eq, Debug)]
+pub enum Strange {
+    // The first byte is neither 0 nor 1.
+    Flag,
+    // More writes are counted than the log has room for.
+    Count,
+    // The list names a page that is not there.
+    Page,
+}
+
+// In words that go on from 'the disk has a header that no register writes'.
+impl fmt::Display for Strange {
+    ghost output = { λ strange. Some (strange_text strange) };
+
+    fn fmt<W: fmt::Write>(&self, f: &mut fmt::Formatter<W>) -> fmt::Result {
+        f.write_str(match self {
+            Strange::Flag => "its first byte is neither 0 nor 1",
+            Strange::Count => "it counts more writes than the log has room for",
+            Strange::Page => "the list names a page that is not there",
+        })
     }
-    all_below(list, pages, count)
 }
 
-impl Log {
-    // What header and list say together.
-    pub fn decode(header: &[u8], list: &[u8], pages: u32) -> Log
-        requires { (length header.now ≡ 1024) × (length list.now ≡ 1024) }
-        ensures holds { result.holds ≡ log_holds header.now list.now pages }
-        ensures count { result.count ≡ log_count header.now list.now pages }
+// The front of a disk: the header and the list, which say something only together.
+#[derive(Clone, Copy, PartialEq, Eq, Debug)]
+pub struct Front {
+    pub header: Block,
+    pub list: Block,
+}
+
+impl Front {
+    // Bytes in the front, as it is read at once.
+    pub const BYTES: usize = 2048;
+
+    // The front that the first bytes of a disk are.
+    pub fn of(bytes: &[u8; Front::BYTES]) -> Front
+        ensures header { result.header ≡ part bytes.now 0 1024 }
+        ensures list { result.list ≡ part bytes.now 1024 1024 }
     {
-        if !is_sane(header, list, pages) {
-            return Log {
-                holds: false,
-                count: 0,
-            };
+        Front {
+            header: *octets::block_at(bytes, 0),
+            list: *octets::block_at(bytes, BLOCK),
         }
-        Log {
-            holds: flag_of(header) == 1,
-            count: count_of(header),
+    }
+
+    // What it says of the log, or why no register with so many pages wrote it.
+    pub fn decode(&self, pages: u32) -> Result<Log, Strange>
+        ensures { MatchResult result
+            (λ log. (sane self.now.header self.now.list pages ≡ true)
+            × (log.holds ≡ log_holds self.now.header self.now.list pages) × (log.count.writes ≡ log_count self.now.header self.now.list pages))
+            (λ _. sane self.now.header self.now.list pages ≡ false) }
+    {
+        let flag = flag_of(&self.header);
+        if flag > 1 {
+            return Err(Strange::Flag);
+        }
+        let count = Count::new(count_of(&self.header)).ok_or(Strange::Count)?;
+        if !all_below(&self.list, pages, count) {
+            return Err(Strange::Page);
+        }
+        Ok(Log {
+            holds: flag == 1,
+            count,
+        })
+    }
+
+    // Whether a register with so many pages may have written it.
+    pub fn is_sane(&self, pages: u32) -> bool
+        ensures { result ≡ sane self.now.header self.now.list pages }
+    {
+        self.decode(pages).is_ok()
+    }
+
+    // What it says of the log; a strange one is read as an empty one.
+    pub fn log(&self, pages: u32) -> Log
+        ensures holds { result.holds ≡ log_holds self.now.header self.now.list pages }
+        ensures count { result.count.writes ≡ log_count self.now.header self.now.list pages }
+    {
+        match self.decode(pages) {
+            Ok(log) => log,
+            Err(_) => Log {
+                holds: false,
+                count: Count::NONE,
+            },
         }
     }
 }

@@ -2,6 +2,15 @@
 ghost use Rattle.std.specs.Prelude.{◌≡◌, ◌+◌, ◌-◌, ◌*◌, ◌<◌, ◌≤◌, MatchOption};
 ghost use Rattle.model.specs.Numbers.{first_page, most_pages, page_size};
 
+use octets::BLOCK;
+
+// How many blocks a disk has: never more than the layout allows.
+#[derive(Clone, Copy, PartialEq, Eq, Debug)]
+pub struct Extent {
+    pub blocks: u64,
+    ghost bounded: { blocks ≤ most_pages + first_page },
+}
+
 pub struct Layout;
 
 impl Layout {
@@ -63,6 +72,6 @@ impl Layout {
         if block >= Self::PAGES + Self::MOST_PAGES as u64 {
             return None;
         }
-        Some(1024 * block)
+        Some(BLOCK as u64 * block)
     }
 }

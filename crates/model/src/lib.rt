@@ -12,17 +12,13 @@ ghost use Rattle.model.specs.Statements.{GoesOnHolding, RefusedChangesNothing, F
 
 // What the book's rules come to: what holds goes on holding until something is closed, and a call that is
 // refused changes nothing.
-pub fn book_stands() -> u8
+pub fn book_stands()
     ensures holding { GoesOnHolding }
     ensures refused { RefusedChangesNothing }
-{
-    0
-}
+{}
 
 // The main promise is not an empty one: of whatever program keeps it, the first answer on new disks is the
 // book's.
-pub fn promise_binds() -> u8
+pub fn promise_binds()
     ensures { (can : ℕ → Bool) (f : Program Put) → Right plain can f → FirstAnswerIsRight plain can f }
-{
-    0
-}
+{}

@@ -11,8 +11,11 @@ ghost use Rattle.octets.specs.Words.{le4, num4, overwritten, part, ReadsBack, Ke
 // Bytes in a block, and in a page.
 pub const BLOCK: usize = 1024;
 
+// A block of a disk, or a page of the book: that it has so many bytes is known of every one.
+pub type Block = [u8; BLOCK];
+
 // The empty block, as it is written and compared.
-pub const EMPTY: [u8; 1024] = [0; 1024];
+pub const EMPTY: Block = [0; BLOCK];
 
 // The number in the four bytes from a place on, low byte first.
 pub fn get_u32(src: &[u8], at: usize) -> u32
@@ -30,34 +33,32 @@ pub fn put_u32(dst: &mut [u8], at: usize, n: u32)
     dst[at..at + 4].copy_from_slice(&n.to_le_bytes());
 }
 
-// One block read from one slice and written in another.
-pub fn copy_block(from: &[u8], to: &mut [u8])
-    requires { (length from.now ≡ 1024) × (length to.old ≡ 1024) }
+// One block written over another.
+pub fn copy_block(from: &Block, to: &mut Block)
     ensures { to.new ≡ from.now }
 {
-    to.copy_from_slice(from);
+    *to = *from;
 }
 
 // A block that stands in the middle of longer bytes, handed on as a part of them.
-pub fn block_at(bytes: &[u8], at: usize) -> &[u8]
+pub fn block_at(bytes: &[u8], at: usize) -> &Block
     requires { at + 1024 ≤ length bytes.now }
     ensures value { result.now ≡ part bytes.now at 1024 }
     ensures len { length result.now ≡ 1024 }
 {
-    &bytes[at..at + BLOCK]
+    bytes[at..at + BLOCK].as_array().unwrap()
 }
 
 // A block written into a part of longer bytes that starts in their middle.
-pub fn put_block(bytes: &mut [u8], at: usize, block: &[u8])
-    requires { (at + 1024 ≤ length bytes.old) × (length block.now ≡ 1024) }
+pub fn put_block(bytes: &mut [u8], at: usize, block: &Block)
+    requires { at + 1024 ≤ length bytes.old }
     ensures { bytes.new ≡ overwritten bytes.old at block.now }
 {
-    copy_block(block, &mut bytes[at..at + BLOCK]);
+    bytes[at..at + BLOCK].copy_from_slice(block);
 }
 
 // Makes a block empty.
-pub fn clear(block: &mut [u8])
-    requires { length block.old ≡ 1024 }
+pub fn clear(block: &mut Block)
     ensures { block.new ≡ empty_page }
 {
     copy_block(&EMPTY, block);
@@ -70,25 +71,16 @@ pub fn is_empty(block: &[u8]) -> bool
     same(block, &EMPTY)
 }
 
-// Whether two slices hold the same bytes. The loop has no exit, so that the compiler makes vector code of
-// it; a start compares both disks whole by this.
+// Whether two slices hold the same bytes. It stays beside `==`: its contract is the promise that equality of blocks
+// can be decided.
 pub fn same(a: &[u8], b: &[u8]) -> bool
     ensures { Decides result (a.now ≡ b.now) }
 {
-    if a.len() != b.len() {
-        return false;
-    }
-    let mut same = true;
-    for i in 0..a.len() {
-        same = same & (a[i] == b[i]);
-    }
-    same
+    a == b
 }
 
 // A number of four bytes is read back as it was written, and no other is disturbed.
-pub fn numbers_stand() -> u8
+pub fn numbers_stand()
     ensures same { ReadsBack }
     ensures others { KeepsOthers }
-{
-    0
-}
+{}

@@ -1,6 +1,6 @@
 -- The laws of answers as bytes: an answer is read back as it was written, bytes that are an answer are its
 -- own, and the refusals are those of the book.
-use Rattle.std.proofs.Common.{◌≡◌, ℕ, zero, suc, ◌<◌, ◌≤◌, Bool, true, false, cond, ◌&&◌, eqb, ltb, ◌⊎◌, List, [], ◌∷◌, length, get_or, drop, Some, None, Option, sym, refl, ap, subst, inl, inr, arith}
+use Rattle.std.proofs.Common.{◌≡◌, ℕ, zero, suc, ◌<◌, ◌≤◌, Bool, true, false, cond, ◌&&◌, ltb, ◌⊎◌, List, [], ◌∷◌, length, get_or, drop, Some, None, Option, sym, refl, ap, subst, inl, inr, arith}
 use Rattle.std.proofs.lemmas.Bool.{cases_eq}
 use Rattle.std.proofs.lemmas.Bool.Decides.{nat_tests}
 use Rattle.octets.proofs.Parts.{num4_le4}
@@ -12,10 +12,7 @@ use Rattle.wire.proofs.Fields.{more_bytes, no_bytes, bytes_more, bytes_le4, numb
 
 -- the bytes of a page
 pub page_is : (bs p : List ℕ) → get_or bs 0 0 ≡ 2 → length bs ≡ 1025 → p ≡ drop 1 bs → Some (book.page p) ≡ answer_of bs
-page_is bs p k l e =
-    let a : eqb (length bs) 0 ≡ false = grind (arith, nat_tests) in
-    let b : eqb (length bs) 1025 ≡ true = grind (arith, nat_tests) in
-    simp (a, b, k, e)
+page_is bs p k l e = grind (arith, nat_tests)
 
 -- the numbers and places that are known are those of the refusals
 refuses_known : (n k : ℕ) → Refuses n k → known n k ≡ true
@@ -25,7 +22,7 @@ refuses_known n k (NoSuchPage, e, f) = rw (← e, ← f) refl
 refuses_known n k (LogFull, e, f) = rw (← e, ← f) refl
 
 known_bounds : (n k : ℕ) → known n k ≡ true → (1 ≤ n) × (n ≤ 4) × (1 < n → k ≡ 0)
-known_bounds n k h = (grind (arith, nat_tests), grind (arith, nat_tests), λ l. grind (arith, nat_tests))
+known_bounds n k h = grind (arith, nat_tests)
 
 known_refuses : (n k : ℕ) → known n k ≡ true → Refuses n k
 known_refuses zero k h = absurd (omega (arith, (known_bounds 0 k h).0))

@@ -1,6 +1,6 @@
 -- The laws of calls as bytes: a call is read back as it was written, bytes that are a call are its own, and
 -- the place where bytes cease to be a call is the end of the longest front with which some call begins.
-use Rattle.std.proofs.Common.{◌≡◌, ℕ, zero, suc, ◌+◌, ◌<◌, ◌≤◌, true, false, eqb, ltb, List, [], ◌∷◌, ◌++◌, length, get_or, take, drop, sym, refl, ap, ◌∙◌, subst, arith}
+use Rattle.std.proofs.Common.{◌≡◌, ℕ, zero, suc, ◌+◌, ◌<◌, ◌≤◌, true, List, [], ◌∷◌, ◌++◌, length, get_or, take, drop, sym, refl, ap, ◌∙◌, subst, arith}
 use Rattle.std.proofs.lemmas.List.{take_all}
 use Rattle.std.proofs.lemmas.Bool.Decides.{nat_tests}
 use Rattle.octets.specs.Words.{num4}
@@ -11,10 +11,7 @@ use Rattle.wire.proofs.Fields.{more_bytes, no_bytes, bytes_more, bytes_le4, numb
 
 -- the bytes of a write
 pub write_is : (bs t : List ℕ) (n : ℕ) → get_or bs 0 0 ≡ 1 → 5 ≤ length bs → n ≡ num4 bs 1 → t ≡ drop 5 bs → book.write n t ≡ call_of bs
-write_is bs t n k l e f =
-    let a : eqb (length bs) 0 ≡ false = grind (arith, nat_tests) in
-    let b : ltb (length bs) 5 ≡ false = grind (arith, nat_tests) in
-    simp (a, b, k, e, f)
+write_is bs t n k l e f = grind (arith, nat_tests)
 
 pub round_trip : RoundTrip
 round_trip (book.read p) h = (bytes_more 0 _ (omega arith) (bytes_le4 p [] no_bytes), ap book.read (num4_le4 p (omega arith)))
@@ -34,21 +31,10 @@ numbered (book.garbled k) h = elim h [ ]
 
 -- how many bytes follow a call's number
 follow : (c : book.Call) → Carried c → (x : ℕ) (t : List ℕ) → call_bytes c ≡ x ∷ t → (x ≤ 3) × (x ≡ 0 → length t ≡ 4) × (2 ≤ x → length t ≡ 0)
-follow (book.read p) h x t e =
-    let a : 0 ≡ x = ap (λ l. get_or l 0 0) e in
-    let b : 5 ≡ suc (length t) = ap length e in
-    (omega arith, λ q. omega arith, λ q. omega arith)
-follow (book.write p bs) h x t e =
-    let a : 1 ≡ x = ap (λ l. get_or l 0 0) e in
-    (omega arith, λ q. omega arith, λ q. omega arith)
-follow book.close h x t e =
-    let a : 2 ≡ x = ap (λ l. get_or l 0 0) e in
-    let b : 1 ≡ suc (length t) = ap length e in
-    (omega arith, λ q. omega arith, λ q. omega arith)
-follow book.size h x t e =
-    let a : 3 ≡ x = ap (λ l. get_or l 0 0) e in
-    let b : 1 ≡ suc (length t) = ap length e in
-    (omega arith, λ q. omega arith, λ q. omega arith)
+follow (book.read p) h x t e = grind arith
+follow (book.write p bs) h x t e = grind arith
+follow book.close h x t e = grind arith
+follow book.size h x t e = grind arith
 follow (book.garbled k) h x t e = elim h [ ]
 
 -- any four bytes behind the number of a read or a write make one
@@ -65,16 +51,16 @@ short_read_is r h = grind (arith, nat_tests)
 short_write_is : (r : List ℕ) → length r < 4 → call_of (1 ∷ r) ≡ book.garbled (suc (length r))
 short_write_is r h = grind (arith, nat_tests)
 
-long_read_is : (r : List ℕ) → 4 < length r → call_of (0 ∷ r) ≡ book.garbled 5
+pub long_read_is : (r : List ℕ) → 4 < length r → call_of (0 ∷ r) ≡ book.garbled 5
 long_read_is r h = grind (arith, nat_tests)
 
-long_close_is : (r : List ℕ) → 0 < length r → call_of (2 ∷ r) ≡ book.garbled 1
+pub long_close_is : (r : List ℕ) → 0 < length r → call_of (2 ∷ r) ≡ book.garbled 1
 long_close_is r h = grind (arith, nat_tests)
 
-long_size_is : (r : List ℕ) → 0 < length r → call_of (3 ∷ r) ≡ book.garbled 1
+pub long_size_is : (r : List ℕ) → 0 < length r → call_of (3 ∷ r) ≡ book.garbled 1
 long_size_is r h = grind (arith, nat_tests)
 
-unknown_is : (x : ℕ) (r : List ℕ) → 3 < x → call_of (x ∷ r) ≡ book.garbled 0
+pub unknown_is : (x : ℕ) (r : List ℕ) → 3 < x → call_of (x ∷ r) ≡ book.garbled 0
 unknown_is x r h = grind (arith, nat_tests)
 
 -- a call's own bytes, or the longest front with which some call begins and where it ends
@@ -92,7 +78,7 @@ parsed_read _ (full a b c d [] f h) = whole (number_below a b c d f) (read_field
 parsed_read _ (full a b c d (e ∷ t) f h) =
     ceases_at 5 (long_read_is (a ∷ (b ∷ (c ∷ (d ∷ (e ∷ t))))) (omega arith)) (omega arith)
     (book.read (number a b c d), [], number_below a b c d f, read_field a b c d f)
-    (λ l (k, u, g, q). let z = follow k g 0 (a ∷ (b ∷ (c ∷ (d ∷ (e ∷ u))))) q in absurd (omega (arith, z.1 refl)))
+    (λ l (k, u, g, q). absurd (omega (arith, (follow k g _ _ q).1 refl)))
 
 parsed_write : (r : List ℕ) → Field r → Parsed (1 ∷ r) (call_of (1 ∷ r))
 parsed_write r (short _ a b c d t l f e) = too_short (1 ∷ r) (short_write_is r l) (book.write (number a b c d) [], t, (number_below a b c d f, no_bytes), write_field a b c d [] f ∙ ap (λ xs. 1 ∷ xs) (sym e))
@@ -107,14 +93,14 @@ parsed (suc zero ∷ r) h = parsed_write r (field r (more_bytes 1 r h))
 parsed (suc (suc zero) ∷ []) h = whole tt refl
 parsed (suc (suc zero) ∷ (x ∷ r)) h =
     ceases_at 1 (long_close_is (x ∷ r) (omega arith)) (omega arith) (book.close, [], tt, refl)
-    (λ l (k, u, g, q). let z = follow k g 2 (x ∷ u) q in absurd (omega (arith, z.2 (omega arith))))
+    (λ l (k, u, g, q). absurd (omega (arith, (follow k g _ _ q).2 (omega arith))))
 parsed (suc (suc (suc zero)) ∷ []) h = whole tt refl
 parsed (suc (suc (suc zero)) ∷ (x ∷ r)) h =
     ceases_at 1 (long_size_is (x ∷ r) (omega arith)) (omega arith) (book.size, [], tt, refl)
-    (λ l (k, u, g, q). let z = follow k g 3 (x ∷ u) q in absurd (omega (arith, z.2 (omega arith))))
+    (λ l (k, u, g, q). absurd (omega (arith, (follow k g _ _ q).2 (omega arith))))
 parsed (suc (suc (suc (suc x))) ∷ r) h =
     ceases_at 0 (unknown_is (suc (suc (suc (suc x)))) r (omega arith)) (omega arith) (book.close, 2 ∷ [], tt, refl)
-    (λ l (k, u, g, q). let z = follow k g (suc (suc (suc (suc x)))) u q in absurd (omega (arith, z.0)))
+    (λ l (k, u, g, q). absurd (omega (arith, (follow k g _ _ q).0)))
 
 pub own_bytes : OwnBytes
 own_bytes bs h n = go (parsed bs h)

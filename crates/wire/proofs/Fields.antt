@@ -1,16 +1,16 @@
 -- Lists of bytes, and fields of four bytes in them: any four bytes are the four bytes of one number.
-use Rattle.std.proofs.Common.{◌≡◌, ℕ, ◌+◌, ◌*◌, ◌/◌, ◌%◌, ◌<◌, true, ltb, List, [], ◌∷◌, ◌++◌, length, refl, arith}
-use Rattle.std.proofs.lemmas.Bool.{ltb-true, lt-ltb, and_parts, and_from}
+use Rattle.std.proofs.Common.{◌≡◌, ℕ, ◌+◌, ◌*◌, ◌<◌, true, List, [], ◌∷◌, ◌++◌, length, refl, arith}
+use Rattle.std.proofs.lemmas.Bool.Decides.{nat_tests}
 use Rattle.octets.specs.Words.{le4}
 use Rattle.model.specs.Book.{bytes}
 
 pub first_byte : (x : ℕ) (xs : List ℕ) → bytes (x ∷ xs) ≡ true → x < 256
 unfolding bytes
-first_byte x xs h = ltb-true x 256 (and_parts (ltb x 256) (bytes xs) h).0
+first_byte x xs h = grind (arith, nat_tests)
 
 pub more_bytes : (x : ℕ) (xs : List ℕ) → bytes (x ∷ xs) ≡ true → bytes xs ≡ true
 unfolding bytes
-more_bytes x xs h = (and_parts (ltb x 256) (bytes xs) h).1
+more_bytes x xs h = grind (arith, nat_tests)
 
 pub no_bytes : bytes [] ≡ true
 unfolding bytes
@@ -18,11 +18,10 @@ no_bytes = refl
 
 pub bytes_more : (x : ℕ) (xs : List ℕ) → x < 256 → bytes xs ≡ true → bytes (x ∷ xs) ≡ true
 unfolding bytes
-bytes_more x xs h g = and_from (ltb x 256) (bytes xs) (lt-ltb x 256 h) g
+bytes_more x xs h g = grind (arith, nat_tests)
 
 pub bytes_le4 : (n : ℕ) (xs : List ℕ) → bytes xs ≡ true → bytes (le4 n ++ xs) ≡ true
-bytes_le4 n xs h =
-    bytes_more (n % 256) _ (omega arith) (bytes_more (n / 256 % 256) _ (omega arith) (bytes_more (n / 65536 % 256) _ (omega arith) (bytes_more (n / 16777216 % 256) xs (omega arith) h)))
+bytes_le4 n xs h = grind (arith, bytes_more)
 
 abbrev pub number : ℕ → ℕ → ℕ → ℕ → ℕ
 number a b c d = a + b * 256 + c * 65536 + d * 16777216
@@ -34,15 +33,7 @@ pub number_below : (a b c d : ℕ) → Four a b c d → number a b c d < 4294967
 number_below a b c d (p, q, r, s) = omega arith
 
 pub le4_number : (a b c d : ℕ) → Four a b c d → le4 (number a b c d) ≡ a ∷ (b ∷ (c ∷ (d ∷ [])))
-le4_number a b c d (p, q, r, s) =
-    let i : number a b c d / 256 ≡ b + c * 256 + d * 65536 = omega arith in
-    let j : number a b c d / 65536 ≡ c + d * 256 = omega arith in
-    let k : number a b c d / 16777216 ≡ d = omega arith in
-    let w : number a b c d % 256 ≡ a = omega arith in
-    let x : number a b c d / 256 % 256 ≡ b = rw i (omega arith) in
-    let y : number a b c d / 65536 % 256 ≡ c = rw j (omega arith) in
-    let z : number a b c d / 16777216 % 256 ≡ d = rw k (omega arith) in
-    simp (w, x, y, z)
+le4_number a b c d (p, q, r, s) = grind arith
 
 -- bytes hold a field at their front, or are too few and become one with some bytes more
 pub data Field : List ℕ → Type 0 where

@@ -1,4 +1,3 @@
 pub mod Fields
-pub mod Written
 pub mod Calls
 pub mod Answers

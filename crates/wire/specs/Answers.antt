@@ -1,5 +1,6 @@
 -- Answers as bytes: which bytes an answer is, and which answer bytes are. Definitions only.
-use Rattle.std.specs.Prelude.{◌≡◌, ℕ, ◌+◌, ◌<◌, Bool, true, cond, ◌&&◌, ◌||◌, ◌⊎◌, List, [], ◌∷◌, length, drop, Some, None, Option, ◌==◌, nat_le, slice_index}
+use Rattle.std.specs.Prelude.{◌≡◌, ℕ, ◌+◌, ◌<◌, Bool, true, cond, ◌&&◌, ◌||◌, ◌⊎◌, List, [], ◌∷◌, ◌++◌, length, drop, Some, None, Option, ◌==◌, nat_le, slice_index, codes, decimal}
+use Rattle.std.specs.Borrow.{Bor}
 use Rattle.octets.specs.Words.{le4, num4}
 use Rattle.model.specs.Numbers.{page_size}
 use Rattle.model.specs.Book as book
@@ -21,18 +22,32 @@ refusal_place Unfit = 0
 refusal_place NoSuchPage = 0
 refusal_place LogFull = 0
 
+-- each refusal in words
+abbrev pub refusal_text : Refusal → List ℕ
+refusal_text (NotACall k) = codes "this is no call from byte " ++ decimal k ++ codes " on"
+refusal_text Unfit = codes "a page has 1024 bytes"
+refusal_text NoSuchPage = codes "there is no such page"
+refusal_text LogFull = codes "256 writes wait already"
+
 -- numbers and places that some refusal has
 abbrev pub known : ℕ → ℕ → Bool
 known n k = n == 1 || (nat_le 2 n && nat_le n 4 && k == 0)
 
+-- an answer with another page where it has one
+abbrev pub repaged : {P Q : Type 0} → Answer P → Q → Answer Q
+repaged (Refused r) q = Refused r
+repaged Done q = Done
+repaged (Page p) q = Page q
+repaged (Number n) q = Number n
+
 -- the code's answers in the words of the book
-abbrev pub answered : Answer → book.Answer
+abbrev pub answered : Answer (Bor (List ℕ)) → book.Answer
 answered (Refused r) = book.refused (refusal_number r) (refusal_place r)
 answered Done = book.done
 answered (Page bs) = book.page bs.now
 answered (Number n) = book.number n
 
-abbrev pub heard : Option Answer → Option book.Answer
+abbrev pub heard : Option (Answer (Bor (List ℕ))) → Option book.Answer
 heard (Some a) = Some (answered a)
 heard None = None
 

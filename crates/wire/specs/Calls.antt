@@ -3,6 +3,7 @@ use Rattle.std.specs.Prelude.{◌≡◌, ℕ, ◌+◌, ◌<◌, ◌≤◌, true,
 use Rattle.octets.specs.Words.{le4, num4}
 use Rattle.model.specs.Book as book
 use Rattle.wire.specs.declared.call.Call.{Call}
+use Rattle.wire.specs.declared.call.NotACall.{NotACall}
 use Rattle.wire.specs.declared.call.Call.TheVariants.{Read, Write, Close, Size}
 
 -- the code's calls in the words of the book
@@ -12,9 +13,9 @@ meant (Write p bs) = book.write p bs.now
 meant Close = book.close
 meant Size = book.size
 
-abbrev pub decoded : Result Call ℕ → book.Call
+abbrev pub decoded : Result Call NotACall → book.Call
 decoded (Ok c) = meant c
-decoded (Err k) = book.garbled k
+decoded (Err e) = book.garbled e.place
 
 -- each call's number and its values: this alone says what a call is as bytes
 abbrev pub call_bytes : book.Call → List ℕ

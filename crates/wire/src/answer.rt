@@ -3,13 +3,18 @@
 // The first byte is the answer's number. A refusal goes on with its own number in one byte and its place in
 // four, so that all refusals are equally long; a page with its 1,024 bytes; a number with four bytes, low
 // byte first. A client that reads anything else is not talking to a register.
-ghost use Rattle.std.specs.Prelude.{◌≡◌, true, false, length, MatchOption, ◌≢◌};
-ghost use Rattle.octets.specs.Words.{num4};
+ghost use Rattle.std.specs.Prelude.{◌≡◌, true, false, Some, MatchOption};
+ghost use Rattle.wire.specs.declared.answer.Refusal.TheVariants.{NotACall as NoCall};
 ghost use Rattle.wire.specs.Encoded.{Encoded};
-ghost use Rattle.wire.specs.Answers.{refusal_number, refusal_place, known, answered, heard, answer_bytes, answer_of, RoundTrip, OwnBytes, TurnedRefuses};
+ghost use Rattle.wire.specs.Answers.{refusal_number, refusal_place, refusal_text, known, answered, heard, repaged, answer_bytes, answer_of, RoundTrip, OwnBytes, TurnedRefuses};
 
-use octets::{BLOCK, put_u32};
+use crate::call::NotACall;
+use crate::write;
+use octets::BLOCK;
+use std::fmt;
 
+// The numbers of answers and of refusals are constants, and no enum: a byte is matched by them where bytes
+// are read.
 const REFUSED: u8 = 0;
 
 const DONE: u8 = 1;
@@ -27,7 +32,7 @@ const NO_SUCH_PAGE: u8 = 3;
 const LOG_FULL: u8 = 4;
 
 // Why a call is not done.
-#[derive(Clone, Copy)]
+#[derive(Clone, Copy, Debug, PartialEq, Eq)]
 pub enum Refusal {
     // Bytes that are no call, and where they cease to be one.
     NotACall { place: u32 },
@@ -60,130 +65,107 @@ impl Refusal {
             Refusal::Unfit | Refusal::NoSuchPage | Refusal::LogFull => 0,
         }
     }
+
+    // The refusal with a number and a place, if there is one. No TryFrom: nobody reads why there is none.
+    fn from_parts(number: u8, place: u32) -> Option<Refusal>
+        ensures { MatchOption result (known number place ≡ false) (λ x. (known number place ≡ true) × (refusal_number x ≡ number) × (refusal_place x ≡ place)) }
+    {
+        match (number, place) {
+            (NOT_A_CALL, place) => Some(Refusal::NotACall { place }),
+            (UNFIT, 0) => Some(Refusal::Unfit),
+            (NO_SUCH_PAGE, 0) => Some(Refusal::NoSuchPage),
+            (LOG_FULL, 0) => Some(Refusal::LogFull),
+            _ => None,
+        }
+    }
 }
 
-#[derive(Clone, Copy)]
-pub enum Answer<'a> {
+impl From<NotACall> for Refusal {
+    ghost from_gives = { λ error refusal. refusal ≡ NoCall error.place };
+
+    fn from(error: NotACall) -> Refusal {
+        Refusal::NotACall { place: error.place }
+    }
+}
+
+// A refusal in words, as the command line tells it.
+impl fmt::Display for Refusal {
+    ghost output = { λ refusal. Some (refusal_text refusal) };
+
+    fn fmt<W: fmt::Write>(&self, f: &mut fmt::Formatter<W>) -> fmt::Result {
+        match self {
+            Refusal::NotACall { place } => write!(f, "this is no call from byte {place} on"),
+            Refusal::Unfit => f.write_str("a page has 1024 bytes"),
+            Refusal::NoSuchPage => f.write_str("there is no such page"),
+            Refusal::LogFull => f.write_str("256 writes wait already"),
+        }
+    }
+}
+
+// What a call is answered, with a page as the caller has it: its bytes, nothing where they stand beside the
+// answer, or as much of them as is shown.
+#[derive(Clone, Copy, Debug, PartialEq, Eq)]
+pub enum Answer<P> {
     Refused(Refusal),
     Done,
-    // A page as it is lent; only one of 1,024 bytes is read back.
-    Page(&'a [u8]),
+    Page(P),
     // How many pages there are.
     Number(u32),
 }
 
+impl<P: Drop> Answer<P> {
+    // The same answer, with another page where it has one.
+    pub fn with_page<Q: Drop>(self, page: Q) -> Answer<Q>
+        ensures { result ≡ repaged self page }
+    {
+        match self {
+            Answer::Refused(refusal) => Answer::Refused(refusal),
+            Answer::Done => Answer::Done,
+            Answer::Page(_) => Answer::Page(page),
+            Answer::Number(number) => Answer::Number(number),
+        }
+    }
+}
+
 // Writes the answer's bytes at the front of what is lent and tells how many they are; writes nothing where
-// they don't fit.
-pub fn encode(answer: Answer<'_>, out: &mut [u8]) -> Option<usize>
+// they don't fit. A page may have any length; only one of 1,024 bytes is read back.
+pub fn encode(answer: Answer<&[u8]>, out: &mut [u8]) -> Option<usize>
     ensures { Encoded result (answer_bytes (answered answer.entry)) out.old out.new }
 {
     match answer {
         Answer::Refused(refusal) => {
-            if out.len() < 6 {
-                return None;
-            }
-            out[0] = REFUSED;
-            out[1] = refusal.number();
-            put_u32(out, 2, refusal.place());
-            Some(6)
+            let [a, b, c, d] = refusal.place().to_le_bytes();
+            write(out, &[REFUSED, refusal.number(), a, b, c, d], &[])
         }
-        Answer::Done => {
-            if out.len() < 1 {
-                return None;
-            }
-            out[0] = DONE;
-            Some(1)
-        }
-        Answer::Page(page) => {
-            if out.len() < 1 || out.len() - 1 < page.len() {
-                return None;
-            }
-            out[0] = PAGE;
-            out[1..1 + page.len()].copy_from_slice(page);
-            Some(1 + page.len())
-        }
+        Answer::Done => write(out, &[DONE], &[]),
+        Answer::Page(page) => write(out, &[PAGE], page),
         Answer::Number(number) => {
-            if out.len() < 5 {
-                return None;
-            }
-            out[0] = NUMBER;
-            put_u32(out, 1, number);
-            Some(5)
+            let [a, b, c, d] = number.to_le_bytes();
+            write(out, &[NUMBER, a, b, c, d], &[])
         }
     }
 }
 
 // The answer that the bytes are, if they are one.
-pub fn decode(bytes: &[u8]) -> Option<Answer<'_>>
+pub fn decode(bytes: &[u8]) -> Option<Answer<&[u8]>>
     ensures { heard result ≡ answer_of bytes.now }
 {
-    let [number, rest @ ..] = bytes else {
-        return None;
-    };
-    match *number {
-        REFUSED => {
-            let [refusal, rest @ ..] = rest else {
-                return None;
-            };
-            let Some(place) = only_number(rest) else {
-                return None;
-            };
-            let Some(refusal) = refusal_of(*refusal, place) else {
-                return None;
-            };
-            Some(Answer::Refused(refusal))
+    match bytes {
+        [REFUSED, number, a, b, c, d] => {
+            let place = u32::from_le_bytes([*a, *b, *c, *d]);
+            Some(Answer::Refused(Refusal::from_parts(*number, place)?))
         }
-        DONE => {
-            let [] = rest else {
-                return None;
-            };
-            Some(Answer::Done)
-        }
-        PAGE => {
-            if rest.len() != BLOCK {
-                return None;
-            }
-            Some(Answer::Page(rest))
-        }
-        NUMBER => {
-            let Some(number) = only_number(rest) else {
-                return None;
-            };
-            Some(Answer::Number(number))
-        }
+        [DONE] => Some(Answer::Done),
+        [PAGE, page @ ..] if page.len() == BLOCK => Some(Answer::Page(page)),
+        [NUMBER, a, b, c, d] => Some(Answer::Number(u32::from_le_bytes([*a, *b, *c, *d]))),
         _ => None,
     }
-}
-
-// The refusal with a number and a place, if there is one.
-fn refusal_of(number: u8, place: u32) -> Option<Refusal>
-    ensures { MatchOption result (known number place ≡ false) (λ x. (known number place ≡ true) × (refusal_number x ≡ number) × (refusal_place x ≡ place)) }
-{
-    match (number, place) {
-        (NOT_A_CALL, place) => Some(Refusal::NotACall { place }),
-        (UNFIT, 0) => Some(Refusal::Unfit),
-        (NO_SUCH_PAGE, 0) => Some(Refusal::NoSuchPage),
-        (LOG_FULL, 0) => Some(Refusal::LogFull),
-        _ => None,
-    }
-}
-
-// The number that four bytes are, if there are four.
-fn only_number(bytes: &[u8]) -> Option<u32>
-    ensures { MatchOption result (length bytes.now ≢ 4) (λ n. (length bytes.now ≡ 4) × (n ≡ num4 bytes.now 0)) }
-{
-    let [a, b, c, d] = bytes else {
-        return None;
-    };
-    Some(u32::from_le_bytes([*a, *b, *c, *d]))
 }
 
 // Answers and bytes fit each other: what is written is read back, and bytes that are an answer are that
 // answer's own. And what the book refuses is one of the refusals above, with its number and its place.
-pub fn answers_stand() -> u8
+pub fn answers_stand()
     ensures back { RoundTrip }
     ensures own { OwnBytes }
     ensures refusals { TurnedRefuses }
-{
-    0
-}
+{}

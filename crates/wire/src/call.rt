@@ -7,9 +7,9 @@ ghost use Rattle.std.specs.Prelude.{◌≡◌};
 ghost use Rattle.wire.specs.Encoded.{Encoded};
 ghost use Rattle.wire.specs.Calls.{call_of, call_bytes, meant, decoded, RoundTrip, OwnBytes, Ceases, Numbered};
 
-use crate::split_number;
-use octets::put_u32;
+use crate::write;
 
+// The calls' numbers are constants, and no enum: a byte is matched by them where bytes are read.
 const READ: u8 = 0;
 
 const WRITE: u8 = 1;
@@ -18,7 +18,7 @@ const CLOSE: u8 = 2;
 
 const SIZE: u8 = 3;
 
-#[derive(Clone, Copy)]
+#[derive(Clone, Copy, Debug, PartialEq, Eq)]
 pub enum Call<'a> {
     Read { page: u32 },
     // Holds when it is closed.
@@ -29,43 +29,33 @@ pub enum Call<'a> {
     Size,
 }
 
-// The call that the bytes are. Where they are none: the place of the first byte that cannot belong to a call
-// after those before it, or their length where more had to follow.
-pub fn decode(bytes: &[u8]) -> Result<Call<'_>, u32>
+// Bytes that are no call: the place of the first byte that cannot belong to a call after those before it, or
+// their length where more had to follow.
+#[derive(Clone, Copy, Debug, PartialEq, Eq)]
+pub struct NotACall {
+    pub place: u32,
+}
+
+// The call that the bytes are.
+pub fn decode(bytes: &[u8]) -> Result<Call<'_>, NotACall>
     ensures { decoded result ≡ call_of bytes.now }
 {
-    let [number, rest @ ..] = bytes else {
-        return Err(0);
-    };
-    match *number {
-        READ => {
-            let Some((page, rest)) = split_number(rest) else {
-                return Err(bytes.len() as u32);
-            };
-            let [] = rest else {
-                return Err(5);
-            };
-            Ok(Call::Read { page })
-        }
-        WRITE => {
-            let Some((page, rest)) = split_number(rest) else {
-                return Err(bytes.len() as u32);
-            };
-            Ok(Call::Write { page, bytes: rest })
-        }
-        CLOSE => {
-            let [] = rest else {
-                return Err(1);
-            };
-            Ok(Call::Close)
-        }
-        SIZE => {
-            let [] = rest else {
-                return Err(1);
-            };
-            Ok(Call::Size)
-        }
-        _ => Err(0),
+    match bytes {
+        [READ, a, b, c, d] => Ok(Call::Read {
+            page: u32::from_le_bytes([*a, *b, *c, *d]),
+        }),
+        [READ, _, _, _, _, ..] => Err(NotACall { place: 5 }),
+        [WRITE, a, b, c, d, bytes @ ..] => Ok(Call::Write {
+            page: u32::from_le_bytes([*a, *b, *c, *d]),
+            bytes,
+        }),
+        [READ | WRITE, ..] => Err(NotACall {
+            place: bytes.len() as u32,
+        }),
+        [CLOSE] => Ok(Call::Close),
+        [SIZE] => Ok(Call::Size),
+        [CLOSE | SIZE, ..] => Err(NotACall { place: 1 }),
+        _ => Err(NotACall { place: 0 }),
     }
 }
 
@@ -76,47 +66,24 @@ pub fn encode(call: Call<'_>, out: &mut [u8]) -> Option<usize>
 {
     match call {
         Call::Read { page } => {
-            if out.len() < 5 {
-                return None;
-            }
-            out[0] = READ;
-            put_u32(out, 1, page);
-            Some(5)
+            let [a, b, c, d] = page.to_le_bytes();
+            write(out, &[READ, a, b, c, d], &[])
         }
         Call::Write { page, bytes } => {
-            if out.len() < 5 || out.len() - 5 < bytes.len() {
-                return None;
-            }
-            out[0] = WRITE;
-            put_u32(out, 1, page);
-            out[5..5 + bytes.len()].copy_from_slice(bytes);
-            Some(5 + bytes.len())
+            let [a, b, c, d] = page.to_le_bytes();
+            write(out, &[WRITE, a, b, c, d], bytes)
         }
-        Call::Close => {
-            if out.len() < 1 {
-                return None;
-            }
-            out[0] = CLOSE;
-            Some(1)
-        }
-        Call::Size => {
-            if out.len() < 1 {
-                return None;
-            }
-            out[0] = SIZE;
-            Some(1)
-        }
+        Call::Close => write(out, &[CLOSE], &[]),
+        Call::Size => write(out, &[SIZE], &[]),
     }
 }
 
 // Calls and bytes fit each other: what is written is read back, and bytes that are a call are that call's
 // own. Of bytes that are none, those before the place begin some call, and those with one byte more begin no
 // call. And the numbers are those by which the book knows the calls.
-pub fn calls_stand() -> u8
+pub fn calls_stand()
     ensures back { RoundTrip }
     ensures own { OwnBytes }
     ensures place { Ceases }
     ensures number { Numbered }
-{
-    0
-}
+{}

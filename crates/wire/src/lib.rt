@@ -6,20 +6,25 @@
 // came, and is lent from there.
 #![tactic(auto)]
 
-ghost use Rattle.std.specs.Prelude.{◌≡◌, ◌<◌, ◌≤◌, length, drop, MatchOption};
-ghost use Rattle.octets.specs.Words.{num4};
+ghost use Rattle.std.specs.Prelude.{◌+◌, ◌≤◌, ◌++◌, length};
+ghost use Rattle.wire.specs.Encoded.{Encoded};
 
 pub mod answer;
 pub mod call;
 #[cfg(test)]
 mod tests;
 
-// The number in the first four bytes, low byte first, and the bytes behind it.
-fn split_number(bytes: &[u8]) -> Option<(u32, &[u8])>
-    ensures { MatchOption result (length bytes.now < 4) (λ x. (4 ≤ length bytes.now) × (x.0 ≡ num4 bytes.now 0) × (x.1.now ≡ drop 4 bytes.now)) }
+// Writes a number with its fields, and the bytes behind them, at the front of what is lent and tells how many
+// they are; writes nothing where they don't fit. The front itself is not handed back: of what is lent on, no
+// contract could say what all of it holds afterwards.
+fn write(out: &mut [u8], head: &[u8], rest: &[u8]) -> Option<usize>
+    ensures { Encoded result (head.now ++ rest.now) out.old out.new }
 {
-    let [a, b, c, d, rest @ ..] = bytes else {
+    if out.len() < head.len() || out.len() - head.len() < rest.len() {
         return None;
-    };
-    Some((u32::from_le_bytes([*a, *b, *c, *d]), rest))
+    }
+    let end = head.len() + rest.len();
+    out[..head.len()].copy_from_slice(head);
+    out[head.len()..end].copy_from_slice(rest);
+    Some(end)
 }

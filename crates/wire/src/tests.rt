@@ -23,7 +23,7 @@ fn no_calls(rt: HostRuntime) -> Result<(), Fail> {
         let Err(told) = call::decode(bytes) else {
             return Err(Fail::new("a call"));
         };
-        assert_eq!(rt; told, place);
+        assert_eq!(rt; told.place, place);
     }
     Ok(())
 }
@@ -88,7 +88,7 @@ fn answers(rt: HostRuntime) -> Result<(), Fail> {
     tell_and_read_back(&rt, Answer::Number(4294967295))
 }
 
-fn tell_and_read_back(rt: &impl Abort, answer: Answer<'_>) -> Result<(), Fail> {
+fn tell_and_read_back(rt: &impl Abort, answer: Answer<&[u8]>) -> Result<(), Fail> {
     let mut out = [0; 1025];
     let mut again = [0; 1025];
     let Some(n) = answer::encode(answer, &mut out) else {

@@ -1,5 +1,6 @@
-use Rattle.std.proofs.Common.{◌≡◌, ℕ, ◌⊎◌, List, [], refl, inl, inr}
-use Rattle.std.proofs.lemmas.Bool.{lt-ltb, le-leb}
+use Rattle.std.proofs.Common.{◌≡◌, ℕ, ◌<◌, ◌≤◌, ◌⊎◌, List, [], Some, MatchOption, refl, sym, ap, subst, ◌∙◌, inl, inr}
+use Rattle.std.specs.Result.{result_ok}
+use Rattle.std.proofs.lemmas.Bool.{lt-ltb}
 use Rattle.model.specs.Numbers.{room}
 use Rattle.model.specs.Book.{Page}
 use Rattle.wire.specs.Calls.{meant}
@@ -10,14 +11,16 @@ use Rattle.journal.specs.Admission.{late}
 use Rattle.journal.proofs.Admitted.{write_planned, close_planned}
 use Rattle.journal.proofs.admit.plan.Goals as goal
 
-pub returns-in-Some : goal.returns-in-Some
-returns-in-Some c =
-    let e = c.in-Some.ensures in
-    let h = lt-ltb c.args.log.count room e.1 in
-    simp (c.in-Write.is, e.0, h) (refl, refl, λ b given q f. write_planned b c.args.log.count c.in-Write.page given c.in-Write.bytes.now q f)
+pub returns-in_ok-slot-in-Write : goal.returns-in_ok-slot-in-Write
+returns-in_ok-slot-in-Write c =
+    let s = c.in_ok-slot-in-Write.slot in
+    let e : c.next.result ≡ Some s = c.ok_or.ensures.ok_part ∙ ap result_ok c.in_ok-slot-in-Write.was in
+    let p = subst (λ o. MatchOption o (room ≤ c.args.log.count.writes) (λ s. (s.place ≡ c.args.log.count.writes) × (c.args.log.count.writes < room))) e c.next.ensures in
+    let h = lt-ltb c.args.log.count.writes room p.1 in
+    simp (c.in-Write.is, h) (refl, λ b given q f. write_planned b s c.in-Write.page given c.in-Write.bytes.now (q ∙ sym p.0) f)
 
 pub returns-in-Close : goal.returns-in-Close
-returns-in-Close c = simp c.in-Close.is (refl, le-leb c.args.log.count room c.args.log.few, λ b given q f. close_planned b c.args.log.count given q)
+returns-in-Close c = simp c.in-Close.is (refl, λ b given q f. close_planned b c.args.log.count given q)
 
 -- a read and a size put nothing
 idle : (n : ℕ) (call : Call) → ((x : ℕ) × (call ≡ Read x)) ⊎ (call ≡ Size) → (late n (meant call) ≡ 0) × ((b : List Page) → [] ≡ call_puts b (meant call))
@@ -26,4 +29,4 @@ idle n call (inl (x, e)) = rw e (refl, λ b. refl)
 idle n call (inr e) = rw e (refl, λ b. refl)
 
 pub returns-in-Read : goal.returns-in-Read
-returns-in-Read c = let i = idle c.args.log.count c.args.call c.in-Read.is in (i.0, refl, λ b given q f. i.1 b)
+returns-in-Read c = let i = idle c.args.log.count.writes c.args.call c.in-Read.is in (i.0, λ b given q f. i.1 b)
