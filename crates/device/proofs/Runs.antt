@@ -1,11 +1,16 @@
 -- Calls of one disk as steps of two: a write that was done, and a disk that was found dead.
-use Rattle.std.proofs.Common.{◌≡◌, ℕ, Bool, true, false, ◌||◌, List, [], ◌∷◌, ◌++◌, Some, None, Option, sym, refl, ap, ◌∙◌, subst, inl, inr, arith}
+use Rattle.std.proofs.Common.{◌≡◌, ℕ, Bool, true, false, ◌||◌, List, [], ◌∷◌, ◌++◌, Some, None, Option, Result, Ok, Err, IsErr, is_ok, sym, refl, ap, ◌∙◌, inl, inr, arith}
 use Rattle.std.proofs.lemmas.Bool.{both_ways}
 use Rattle.model.specs.Book.{set_page}
 use Rattle.model.specs.Disks.{On, on, View, wrote_from, killed_from}
 use Rattle.model.specs.Plain.{Put}
+use Rattle.device.specs.declared.Dead.{Dead}
+use Rattle.device.specs.declared.mirror.Mirror.{Mirror}
+use Rattle.device.specs.declared.mirror.Side.{Side}
+use Rattle.device.specs.declared.mirror.Side.TheVariants.{First, Second}
 use Rattle.device.specs.Known.{Known, living, dead, Written, Shown, Lives}
-use Rattle.device.specs.Ran.{Ran, stays, writes, dies, Both, together, Did, Fetched, FetchedBoth, TellsLife}
+use Rattle.device.specs.Ran.{Ran, stays, writes, dies, Both, together, Did, Fetched, FetchedBoth, TellsLife, TellsOne, side_number}
+use Rattle.device.specs.Sides.{disk_at, with_disk}
 
 -- one run after the other
 pub ran_more : {xs ys : List (On Put)} {d e f : View} → Ran xs d e → Ran ys e f → Ran (xs ++ ys) d f
@@ -14,7 +19,7 @@ ran_more (writes w p) q = writes w (ran_more p q)
 ran_more (dies k p) q = dies k (ran_more p q)
 
 pub stays_at : {d e : View} → d ≡ e → Ran [] d e
-stays_at {d} {e} p = let P : View → Type 0 = λ x. Ran [] d x in subst P p stays
+stays_at p = rw p stays
 
 abbrev pub both : Known → Known → Both
 both a b = record { first = a; second = b }
@@ -61,27 +66,42 @@ pub together_is : (j k : Option Known) (a b : Known) → j ≡ Some a → k ≡ 
 unfolding together
 together_is j k a b e f = rw (e, f)
 
+-- what a write answers is whether its disk lives afterwards
+written_tells : (a c : Known) (k : Option Known) (m : Put) (r : Bool) → Written (Some a) k m.block m.content r → k ≡ Some c → r ≡ c.lives
+written_tells a c k m true (l, e) f =
+    let h : living (set_page a.has m.block m.content) ≡ c = cc in
+    ap (λ (x : Known). x.lives) h
+written_tells a c k m false e f =
+    let h : dead a.has ≡ c = cc in
+    ap (λ (x : Known). x.lives) h
+
+-- a write on the disk of a side
+module _ {X : Type 0} (known : X → Option Known) (s : Mirror X) where
+  abbrev held : Mirror X → Option Both
+  held t = together (known t.first) (known t.second)
+
+  pub side_did : (side : Side) (x : X) (m : Put) (r : Bool) → Written (known (disk_at side s)) (known x) m.block m.content r → Did (held s) (held (with_disk side s x)) (on (side_number side) m ∷ [])
+  side_did First x m r w d e =
+      let h = together_known _ _ d e in
+      let f = first_written d.first d.second (known x) m r (rw h.0 at w) in
+      (both f.0 d.second, together_is _ _ f.0 d.second f.1 h.1, f.2)
+  side_did Second x m r w d e =
+      let h = together_known _ _ d e in
+      let f = second_written d.first d.second (known x) m r (rw h.1 at w) in
+      (both d.first f.0, together_is _ _ d.first f.0 h.0 f.1, f.2)
+
+  pub side_told : (side : Side) (x : X) (m : Put) (r : Bool) → Written (known (disk_at side s)) (known x) m.block m.content r → TellsOne (held s) (held (with_disk side s x)) side r
+  side_told First x m r w d e d' e' =
+      written_tells d.first d'.first (known x) m r (rw (together_known _ _ d e).0 at w) (together_known _ _ d' e').0
+  side_told Second x m r w d e d' e' =
+      written_tells d.second d'.second (known x) m r (rw (together_known _ _ d e).1 at w) (together_known _ _ d' e').1
+
 module _ (j k : Option Known) where
-  pub first_did : (j' : Option Known) (m : Put) (r : Bool) → Written j j' m.block m.content r → Did (together j k) (together j' k) (on 0 m ∷ [])
-  first_did j' m r w d e =
-      let h = together_known j k d e in
-      let F : Option Known → Type 0 = λ x. Written x j' m.block m.content r in
-      let f = first_written d.first d.second j' m r (subst F h.0 w) in
-      (both f.0 d.second, together_is j' k f.0 d.second f.1 h.1, f.2)
-
-  pub second_did : (k' : Option Known) (m : Put) (r : Bool) → Written k k' m.block m.content r → Did (together j k) (together j k') (on 1 m ∷ [])
-  second_did k' m r w d e =
-      let h = together_known j k d e in
-      let F : Option Known → Type 0 = λ x. Written x k' m.block m.content r in
-      let f = second_written d.first d.second k' m r (subst F h.1 w) in
-      (both d.first f.0, together_is j k' d.first f.0 h.0 f.1, f.2)
-
   -- read off the first
   pub first_fetched : (j' : Option Known) (from : ℕ) (p : List ℕ) → Shown j j' from p true → Fetched (together j k) (together j' k) from p true
   first_fetched j' from p w d e =
       let h = together_known j k d e in
-      let F : Option Known → Type 0 = λ x. Shown x j' from p true in
-      let f = subst F h.0 w in (
+      let f = rw h.0 at w in (
         both (living d.first.has) d.second,
         together_is j' k _ d.second f.1 h.1,
         stays_at (two_are _ d.second _ (living_is d.first f.0)),
@@ -93,10 +113,8 @@ module _ (j k : Option Known) where
   pub second_fetched : (j' k' : Option Known) (from : ℕ) (p q : List ℕ) (s : Bool) → Shown j j' from p false → Shown k k' from q s → Fetched (together j k) (together j' k') from q s
   second_fetched j' k' from p q true w v d e =
       let h = together_known j k d e in
-      let F : Option Known → Type 0 = λ x. Shown x j' from p false in
-      let S : Option Known → Type 0 = λ x. Shown x k' from q true in
-      let f = subst F h.0 w in
-      let g = subst S h.1 v in (
+      let f = rw h.0 at w in
+      let g = rw h.1 at v in (
         both (dead d.first.has) (living d.second.has),
         together_is j' k' _ _ f g.1,
         ran_more (first_dead d.first d.second) (stays_at (second_is (dead d.first.has) _ _ (living_is d.second g.0))),
@@ -104,23 +122,21 @@ module _ (j k : Option Known) where
         λ _. (d.second.has, inr (g.0, refl), g.2),
       )
   second_fetched j' k' from p q false w v d e =
-      let h = together_known j k d e in
-      let F : Option Known → Type 0 = λ x. Shown x j' from p false in
-      let S : Option Known → Type 0 = λ x. Shown x k' from q false in (
+      let h = together_known j k d e in (
         both (dead d.first.has) (dead d.second.has),
-        together_is j' k' _ _ (subst F h.0 w) (subst S h.1 v),
+        together_is j' k' _ _ (rw h.0 at w) (rw h.1 at v),
         ran_more (first_dead d.first d.second) (second_dead (dead d.first.has) d.second),
         refl,
         λ t. absurd (both_ways false refl t),
       )
 
   -- read off both
-  pub none_fetched : (j' : Option Known) (from : ℕ) (p q : List ℕ) → Shown j j' from p false → FetchedBoth (together j k) (together j' k) from p q false
-  none_fetched j' from p q w d e =
-      let h = together_known j k d e in
-      let F : Option Known → Type 0 = λ x. Shown x j' from p false in (
+  pub none_fetched : (j' : Option Known) (from : ℕ) (p q : List ℕ) (r : Result (Unit {0}) Dead) → IsErr r → Shown j j' from p false → FetchedBoth (together j k) (together j' k) from p q (is_ok r)
+  none_fetched j' from p q (Ok x) l w d e = absurd (both_ways false refl l)
+  none_fetched j' from p q (Err x) l w d e =
+      let h = together_known j k d e in (
         both (dead d.first.has) d.second,
-        together_is j' k _ d.second (subst F h.0 w) h.1,
+        together_is j' k _ d.second (rw h.0 at w) h.1,
         first_dead d.first d.second,
         refl,
         λ t. absurd (both_ways false refl t),
@@ -129,10 +145,8 @@ module _ (j k : Option Known) where
   pub both_fetched : (j' k' : Option Known) (from : ℕ) (p q : List ℕ) (s : Bool) → Shown j j' from p true → Shown k k' from q s → FetchedBoth (together j k) (together j' k') from p q s
   both_fetched j' k' from p q true w v d e =
       let h = together_known j k d e in
-      let F : Option Known → Type 0 = λ x. Shown x j' from p true in
-      let S : Option Known → Type 0 = λ x. Shown x k' from q true in
-      let f = subst F h.0 w in
-      let g = subst S h.1 v in (
+      let f = rw h.0 at w in
+      let g = rw h.1 at v in (
         d,
         together_is j' k' d.first d.second (f.1 ∙ ap Some (sym (living_is d.first f.0))) (g.1 ∙ ap Some (sym (living_is d.second g.0))),
         stays,
@@ -141,21 +155,17 @@ module _ (j k : Option Known) where
       )
   both_fetched j' k' from p q false w v d e =
       let h = together_known j k d e in
-      let F : Option Known → Type 0 = λ x. Shown x j' from p true in
-      let S : Option Known → Type 0 = λ x. Shown x k' from q false in
-      let f = subst F h.0 w in (
+      let f = rw h.0 at w in (
         both d.first (dead d.second.has),
-        together_is j' k' d.first _ (f.1 ∙ ap Some (sym (living_is d.first f.0))) (subst S h.1 v),
+        together_is j' k' d.first _ (f.1 ∙ ap Some (sym (living_is d.first f.0))) (rw h.1 at v),
         second_dead d.first d.second,
         rw f.0,
         λ t. absurd (both_ways false refl t),
       )
 
-  pub life_told : (r s t : Bool) → Lives j r → Lives k s → t ≡ (r || s) → TellsLife (together j k) t
-  life_told r s t w v q d e =
+  pub life_told : (r s : Bool) → Lives j r → Lives k s → TellsLife (together j k) (r || s)
+  life_told r s w v d e =
       let h = together_known j k d e in
-      let F : Option Known → Type 0 = λ x. Lives x r in
-      let S : Option Known → Type 0 = λ x. Lives x s in
-      let f : r ≡ d.first.lives = subst F h.0 w in
-      let g : s ≡ d.second.lives = subst S h.1 v in
-      q ∙ rw (f, g)
+      let f = rw h.0 at w in
+      let g = rw h.1 at v in
+      rw (f, g)

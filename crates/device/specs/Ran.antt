@@ -43,6 +43,14 @@ together (Some a) (Some b) = Some (record { first = a; second = b })
 abbrev pub Did : Option Both → Option Both → List (On Put) → Type 0
 Did before after ws = (d : Both) → before ≡ Some d → (e : Both) × (after ≡ Some e) × Ran ws (view d) (view e)
 
+abbrev pub known_of : Side → Both → Known
+known_of First d = d.first
+known_of Second d = d.second
+
+-- whether the disk of a side lives afterwards
+abbrev pub TellsOne : Option Both → Option Both → Side → Bool → Type 0
+TellsOne before after side r = (d : Both) → before ≡ Some d → (e : Both) → after ≡ Some e → r ≡ (known_of side e).lives
+
 -- h is what one of two living disks has
 abbrev pub OnOne : List Page → Both → Type 0
 OnOne h d = ((d.first.lives ≡ true) × (d.first.has ≡ h)) ⊎ ((d.second.lives ≡ true) × (d.second.has ≡ h))

@@ -9,21 +9,39 @@ pub mod blocks;
 pub mod memory;
 pub mod mirror;
 
-ghost use Rattle.std.specs.Prelude.{List, Option};
+ghost use Rattle.std.specs.Prelude.{List, Option, Some, is_ok, codes};
 ghost use Rattle.device.specs.Known.{Known, Written, Shown, Lives};
 
-// A disk of blocks of 1,024 bytes. A call answers false where it finds the disk dead, and dead it stays.
+use octets::Block;
+use std::error::Error;
+use std::fmt;
+
+// A call found its disk dead, or all the disks that it asked. Dead they stay.
+#[derive(Clone, Copy, PartialEq, Eq, Debug)]
+pub struct Dead;
+
+impl fmt::Display for Dead {
+    ghost output = { λ _. Some (codes "the disk is dead") };
+
+    fn fmt<W: fmt::Write>(&self, f: &mut fmt::Formatter<W>) -> fmt::Result {
+        f.pad("the disk is dead")
+    }
+}
+
+impl Error for Dead {}
+
+// A disk of blocks.
 pub trait Device {
     // Its blocks and whether it lives, where that is known.
     ghost known: { Self → Option Known };
 
     // Reads as many whole blocks as fit, from a block on. Past the disk's end blocks are empty.
-    fn read(&mut self, from: u64, out: &mut [u8]) -> bool
-        ensures { Shown (known self.old) (known self.new) from out.new result };
+    fn read(&mut self, from: u64, out: &mut [u8]) -> Result<(), Dead>
+        ensures { Shown (known self.old) (known self.new) from out.new (is_ok result) };
 
     // Writes one block, to last. Past the disk's end nothing is written.
-    fn write(&mut self, block: u64, bytes: &[u8; 1024]) -> bool
-        ensures { Written (known self.old) (known self.new) block bytes.now result };
+    fn write(&mut self, block: u64, bytes: &Block) -> Result<(), Dead>
+        ensures { Written (known self.old) (known self.new) block bytes.now (is_ok result) };
 
     // Whether it lives, as far as is known by now.
     fn is_alive(&self) -> bool

@@ -1,15 +1,17 @@
 // A disk in memory, which can be told when to die.
-ghost use Rattle.std.specs.Prelude.{◌≡◌, ◌+◌, true, false, IfOk, Some};
+ghost use Rattle.std.specs.Prelude.{◌≡◌, ◌+◌, true, false, IfOk, IsOk, IsErr, is_ok, Some};
 ghost use Rattle.device.specs.Blocks.{whole};
 
-use crate::{Device, blocks};
+use crate::{Dead, Device, blocks};
+use octets::Block;
 use std::alloc::{AllocError, Global};
 
 #[derive(Drop)]
 pub struct MemDisk {
     bytes: Vec<u8>,
     alive: bool,
-    // How many more reads and writes it serves before it dies.
+    // How many more reads and writes it serves before it dies. Not inside an `Option` that says whether it
+    // lives: a dead disk keeps this number, has it set and hands it to its copy.
     left: u64,
 }
 
@@ -62,39 +64,35 @@ impl MemDisk {
     }
 
     // Whether it serves one more call: it lives, and has one left.
-    fn serves(&mut self) -> bool
+    fn serves(&mut self) -> Result<(), Dead>
         ensures bytes { self.new.bytes ≡ self.old.bytes }
-        ensures alive { self.new.alive ≡ result }
-        ensures lived { result ≡ true → self.old.alive ≡ true }
-        ensures served { result ≡ true → self.new.left + 1 ≡ self.old.left }
-        ensures died { result ≡ false → (self.new.left ≡ self.old.left) × (self.old.alive ≡ true → self.old.left ≡ 0) }
+        ensures alive { self.new.alive ≡ is_ok result }
+        ensures lived { IsOk result → self.old.alive ≡ true }
+        ensures served { IsOk result → self.new.left + 1 ≡ self.old.left }
+        ensures died { IsErr result → (self.new.left ≡ self.old.left) × (self.old.alive ≡ true → self.old.left ≡ 0) }
     {
         if !self.alive || self.left == 0 {
             self.alive = false;
-            return false;
+            return Err(Dead);
         }
         self.left -= 1;
-        true
+        Ok(())
     }
 }
 
 impl Device for MemDisk {
     ghost known = { λ d. Some (record { has = whole d.bytes.items; lives = d.alive }) };
 
-    fn read(&mut self, from: u64, out: &mut [u8]) -> bool {
-        if !self.serves() {
-            return false;
-        }
+    fn read(&mut self, from: u64, out: &mut [u8]) -> Result<(), Dead> {
+        self.serves()?;
         blocks::read_blocks(self.bytes.as_slice(), from, out);
-        true
+        Ok(())
     }
 
-    fn write(&mut self, block: u64, bytes: &[u8; 1024]) -> bool {
-        if !self.serves() {
-            return false;
-        }
+    fn write(&mut self, block: u64, bytes: &Block) -> Result<(), Dead> {
+        self.serves()?;
         blocks::write_block(self.bytes.as_mut_slice(), block, bytes);
-        true
+        Ok(())
     }
 
     fn is_alive(&self) -> bool {

@@ -28,8 +28,8 @@ use Rattle.journal.specs.declared.plan.Plan.{Plan}
 use Rattle.journal.specs.declared.plan.Plan.TheVariants.{Nothing}
 use Rattle.journal.proofs.Admitted.{refusals_are}
 use Rattle.engine.specs.declared.work.Work.{Work}
-use Rattle.engine.specs.declared.call.Reply.{Reply}
-use Rattle.engine.specs.declared.call.Reply.TheVariants.{Refused, Done, Page as PageRead, Number}
+use Rattle.wire.specs.declared.answer.Answer.{Answer as Told}
+use Rattle.wire.specs.declared.answer.Answer.TheVariants.{Refused, Done, Page as PageRead, Number}
 use Rattle.engine.specs.declared.call.Turn.{Turn}
 use Rattle.engine.specs.Works.{work_writes, copy_writes, both_writes}
 use Rattle.engine.specs.Doing.{LogSame, Copies, Finished}
@@ -94,11 +94,11 @@ idle_writes w b e f =
     subst P e refl ∙ (let Q : Option ℕ → Type 0 = λ o. copy_writes o w.block ++ mirrored copies [] ≡ [] in subst Q (sym f) refl)
 
 -- a call that is answered and writes nothing
-pub idle_turn : (n : ℕ) (b : List Page) (c : Call) (page : Page) (t : Turn) (r : Reply) → t.reply ≡ r → t.work.plan ≡ Nothing → t.work.copy ≡ None →
+pub idle_turn : (n : ℕ) (b : List Page) (c : Call) (page : Page) (t : Turn) (r : Told (Unit {0})) → t.reply ≡ r → t.work.plan ≡ Nothing → t.work.copy ≡ None →
     reply_means r page ≡ answer (limits n) (book_of b) c → [] ≡ puts_of (limits n) b c → TurnIs n b c page t
 unfolding mirrored
 idle_turn n b c page t r e f g a p = (
-  ap (λ (x : Reply). reply_means x page) e ∙ a,
+  ap (λ (x : Told (Unit {0})). reply_means x page) e ∙ a,
   idle_writes t.work b f g ∙ ap (mirrored copies) p,
   g,
   inl f,
@@ -126,12 +126,12 @@ pub late_refused : (n : ℕ) (b : List Page) (c : Call) (r : Refusal) (k : ℕ) 
 late_refused n b c r k ok e f g = turned_late n b c ok e ∙ ap (λ x. late x c) f ∙ sym g
 
 -- a page that is read
-pub read_turn : (n a : ℕ) (b : List Page) (page : Page) (t : Turn) → early n (book.read a) ≡ 0 → page ≡ nth b (first_page + a) → t.reply ≡ PageRead → t.work.plan ≡ Nothing → t.work.copy ≡ None →
+pub read_turn : (n a : ℕ) (b : List Page) (page : Page) (t : Turn) → early n (book.read a) ≡ 0 → page ≡ nth b (first_page + a) → t.reply ≡ PageRead tt → t.work.plan ≡ Nothing → t.work.copy ≡ None →
     TurnIs n b (book.read a) page t
 unfolding told call_puts
 read_turn n a b page t e p f g h =
     let q = turned_late n b (book.read a) tt e in
-    idle_turn n b (book.read a) page t PageRead f g h (ap book.page (p ∙ sym (nth_from first_page b a)) ∙ taken_answer n b (book.read a) tt q) (taken_puts n b (book.read a) tt q)
+    idle_turn n b (book.read a) page t (PageRead tt) f g h (ap book.page (p ∙ sym (nth_from first_page b a)) ∙ taken_answer n b (book.read a) tt q) (taken_puts n b (book.read a) tt q)
 
 pub size_turn : (n : ℕ) (b : List Page) (page : Page) (t : Turn) → early n book.size ≡ 0 → t.reply ≡ Number n → t.work.plan ≡ Nothing → t.work.copy ≡ None → TurnIs n b book.size page t
 unfolding told call_puts
@@ -166,7 +166,7 @@ logged_turn n b c page t k p list block ok logs e f l has puts ls done plan alon
     let q : turned (limits n) (book_of b) c ≡ 0 = turned_late n b c ok e ∙ ap (λ x. late x c) f ∙ l in
     let P : Option ℕ → Type 0 = λ o. copy_writes o t.work.block ++ both_writes t.work b ≡ mirrored copies (puts_of (limits n) b c) in
     let same : plan_puts t.work.plan t.work.block b ≡ plan_puts p block b = ap (λ (x : Plan). plan_puts x t.work.block b) plan ∙ ap (λ (x : Page). plan_puts p x b) blocks in (
-      ap (λ (x : Reply). reply_means x page) done ∙ sym (told_done n b c logs) ∙ taken_answer n b c ok q,
+      ap (λ (x : Told (Unit {0})). reply_means x page) done ∙ sym (told_done n b c logs) ∙ taken_answer n b c ok q,
       subst P (sym alone) (ap (mirrored copies) (same ∙ puts b block f (carried n c block e has) ∙ taken_puts n b c ok q)),
       alone,
       inr (ls ∙ sym lists),
@@ -205,7 +205,7 @@ log_is b n header list e f l =
     (rw (e, f, p), rw (e, f, p))
 
 pub log_was_read : (s t : Option Both) (n : ℕ) (out header list : Page) (r : Bool) (log : Log) → Fetched s t 0 out r → r ≡ true → length out ≡ 2048 → header ≡ block_of out 0 → list ≡ block_of out 1 →
-    log.holds ≡ log_holds header list n → log.count ≡ log_count header list n → LogRead s t n list (Some log)
+    log.holds ≡ log_holds header list n → log.count.writes ≡ log_count header list n → LogRead s t n list (Some log)
 log_was_read s t n out header list r log fetch good l hd ls ho co d e b agree len =
     let f = fetch d e in
     let g = f.4 good in

@@ -61,10 +61,10 @@ on_one_log d b h i l same (inr (a, e)) = ap (λ x. nth x (2 + i)) (sym e) ∙ sa
 
 -- a block of the log is the same on whichever disk lives
 pub late_read : (q : Plan) (kind : Kind) (k : ℕ) (d : Both) (b h : List Page) → LogBlock kind k → ReadsLog q kind → (replays q ≡ true → LogSame (view d) b) → OnOne h d → nth h k ≡ nth b k
-late_read q (Header x n) k d b h z r same o = absurd z
+late_read q (Header x) k d b h z r same o = absurd z
 late_read q (Listing i p) k d b h z r same o = absurd z
 late_read q Given k d b h z r same o = absurd z
-late_read q (Logged i) k d b h z r same o = rw z (on_one_log d b h i r.1 (same r.0) o)
+late_read q (Logged i) k d b h z r same o = rw z (on_one_log d b h i.place i.there (same r) o)
 late_read q Empty k d b h z r same o = absurd z
 
 -- one block read

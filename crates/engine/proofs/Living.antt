@@ -20,7 +20,7 @@ use Rattle.device.specs.Known.{Known}
 use Rattle.device.specs.Ran as ran
 use Rattle.device.specs.Ran.{Ran, stays, writes, Both, view, one_lives}
 use Rattle.journal.specs.Journal.{holds, book_of, puts_of}
-use Rattle.engine.specs.declared.call.Reply.{Reply}
+use Rattle.wire.specs.declared.answer.Answer.{Answer}
 use Rattle.engine.specs.Calling.{limits, Agree, reply_means, Answered}
 use Rattle.engine.specs.Doing.{LogSame}
 use Rattle.engine.specs.Recovering.{source_of, OfPages, LogAgrees, Recovered}
@@ -88,7 +88,7 @@ pub explained : (n : ℕ) → GoodSize (limits n) → (d : Both) (hs : List Happ
 unfolding Right
 explained n size d hs lived = is_right all (limits n) (resting (view d) hs) (size.0, size.1, λ k. refl) lived
 
-pub answer_lives : (s t : Option Both) (n : ℕ) (c : Call) (page : Page) (r : Option Reply) → Answered s t n c page r → AnswerLives s t n c page r
+pub answer_lives : (s t : Option Both) (n : ℕ) (c : Call) (page : Page) (r : Option (Answer (Unit {0}))) → Answered s t n c page r → AnswerLives s t n c page r
 answer_lives s t n c page None told d hs is size lived =
     let z = rested n size d hs lived in
     let f = told d is z.0 z.1 z.2 in

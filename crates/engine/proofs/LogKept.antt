@@ -90,6 +90,6 @@ entries_keep b i (suc n) = (inl (inr (omega arith)), entries_keep b (suc i) n)
 pub replay_keeps : (q : Plan) (given : Page) (b : List Page) → replays q ≡ true → PutsKeep b (plan_puts q given b)
 replay_keeps Nothing given b h = tt
 replay_keeps (Write n p) given b h = absurd (both_ways false refl h)
-replay_keeps (Close n) given b h = (inl (inl (omega arith)), entries_keep b 0 n)
-replay_keeps (Replay n) given b h = entries_keep b 0 n
+replay_keeps (Close n) given b h = (inl (inl (omega arith)), entries_keep b 0 n.writes)
+replay_keeps (Replay n) given b h = entries_keep b 0 n.writes
 replay_keeps (Make k) given b h = absurd (both_ways false refl h)

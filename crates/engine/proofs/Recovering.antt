@@ -30,8 +30,8 @@ use Rattle.engine.proofs.Doing.{ran_dead, both_dead}
 replays_some : (q : Plan) (given : Page) (b : List Page) → replays q ≡ true → 1 < length (plan_puts q given b)
 replays_some Nothing given b r = absurd (both_ways false refl r)
 replays_some (Write n p) given b r = absurd (both_ways false refl r)
-replays_some (Close n) given b r = omega (arith, length-append (entries_from b 0 n) (header_put false 0 ∷ []), length_entries b 0 n)
-replays_some (Replay n) given b r = omega (arith, ltb-true, length-append (entries_from b 0 n) (header_put false 0 ∷ []), length_entries b 0 n)
+replays_some (Close n) given b r = omega (arith, length-append (entries_from b 0 n.writes) (header_put false 0 ∷ []), length_entries b 0 n.writes)
+replays_some (Replay n) given b r = omega (arith, ltb-true, length-append (entries_from b 0 n.writes) (header_put false 0 ∷ []), length_entries b 0 n.writes)
 replays_some (Make k) given b r = absurd (both_ways false refl r)
 
 replays_held : (q : Plan) (given : Page) (b : List Page) → plan_puts q given b ≡ recovery b → replays q ≡ true → holds b ≡ true

@@ -1,7 +1,7 @@
 -- The highest block in which two disks differ, found piece by piece from the lowest up, is the one that the
 -- model copies.
-use Rattle.std.proofs.Common.{◌≡◌, ℕ, zero, suc, ◌+◌, ◌-◌, ◌*◌, ◌<◌, ◌≤◌, Bool, true, false, List, [], ◌∷◌, length, take, Some, None, Option, sym, refl, ap, ◌∙◌, subst, inl, inr, add-zero, arith, length-take}
-use Rattle.std.specs.Option.{option_map}
+use Rattle.std.proofs.Common.{◌≡◌, ℕ, zero, suc, ◌+◌, ◌-◌, ◌*◌, ◌<◌, ◌≤◌, Bool, true, false, List, [], ◌∷◌, length, take, Some, None, Option, Ok, Err, sym, refl, ap, ◌∙◌, subst, inl, inr, add-zero, arith, length-take}
+use Rattle.std.specs.Option.{option_map, option_or}
 use Rattle.std.proofs.lemmas.Bool.{both_ways, cases_lt}
 use Rattle.model.specs.Book.{Page, nth}
 use Rattle.model.specs.Promise.{same_page}
@@ -9,7 +9,7 @@ use Rattle.model.proofs.Lists.{same_page_refl, same_page_eq}
 use Rattle.mirror.specs.Mirror.{or_else, highest}
 use Rattle.device.specs.Blocks.{block_of, Shows}
 use Rattle.device.specs.Ran.{stays, Both, both_live, FetchedBoth}
-use Rattle.engine.specs.declared.recover.Piece.TheVariants.{Dead, Same, Differs}
+use Rattle.device.specs.declared.Dead.{Dead}
 use Rattle.engine.specs.Doing.{Copies}
 use Rattle.engine.specs.Recovering.{SameBetween, Highest, blocks_in, PieceRead, ReadThrough, copy_put, Scanned}
 
@@ -31,14 +31,14 @@ module _ (p q : List ℕ) (xs ys : List Page) (from n : ℕ) (is : blocks_in p q
 
 -- a piece that is the same on both, and one that differs
 pub piece_same : (s t : Option Both) (from n : ℕ) (p q : List ℕ) (r : Bool) (was : Page) → blocks_in p q ≡ n → FetchedBoth s t from p q r → r ≡ true →
-    Highest (block_of p) (block_of q) 0 (blocks_in p q) None → PieceRead s t from n Same was was
+    Highest (block_of p) (block_of q) 0 (blocks_in p q) None → PieceRead s t from n (Ok None) was was
 piece_same s t from n p q r was is fetch good none d e =
     let f = fetch d e in
     let g = f.4 good in
     (f.0, f.1, f.2, (sym f.3 ∙ good, g.0, refl, piece_highest p q d.first.has d.second.has from n is g.1 g.2 None none))
 
 pub piece_differs : (s t : Option Both) (from n i : ℕ) (p q : List ℕ) (r : Bool) (was kept : Page) → blocks_in p q ≡ n → FetchedBoth s t from p q r → r ≡ true →
-    Highest (block_of p) (block_of q) 0 (blocks_in p q) (Some i) → kept ≡ block_of p i → PieceRead s t from n (Differs (from + i)) was kept
+    Highest (block_of p) (block_of q) 0 (blocks_in p q) (Some i) → kept ≡ block_of p i → PieceRead s t from n (Ok (Some (from + i))) was kept
 piece_differs s t from n i p q r was kept is fetch good some same d e =
     let f = fetch d e in
     let g = f.4 good in
@@ -57,8 +57,8 @@ highest_on f g m j (Some i) (a, b, differ, all) l same = (a, omega arith, differ
 pub through_none : (s : Option Both) (n : ℕ) (kept : Page) → n ≡ 0 → ReadThrough s s n None kept
 through_none s n kept z d e = (e, (λ _. refl), (λ k h b. absurd (omega arith)), tt)
 
-pub through_same : (s t u : Option Both) (m from n j : ℕ) (r r' : Option ℕ) (was kept : Page) → m ≡ from → from + n ≡ j → r' ≡ r → ReadThrough s t m r was →
-    PieceRead t u from n Same was kept → ReadThrough s u j r' kept
+through_same : (s t u : Option Both) (m from n j : ℕ) (r r' : Option ℕ) (was kept : Page) → m ≡ from → from + n ≡ j → r' ≡ r → ReadThrough s t m r was →
+    PieceRead t u from n (Ok None) was kept → ReadThrough s u j r' kept
 through_same s t u m from n j r r' was kept e f z read piece d is =
     let h = read d is in
     let g = piece d h.0 in
@@ -69,8 +69,8 @@ through_same s t u m from n j r r' was kept e f z read piece d is =
     let k = subst R (sym z) (h.1, subst H f (highest_on _ _ from (from + n) r (subst H e h.2) (omega arith) p.3), subst C (sym p.2) h.3) in
     (g.1 ∙ ap (λ (x : Both). Some x) p.1, k.0, k.1, k.2)
 
-pub through_differs : (s t u : Option Both) (m from n j k : ℕ) (r r' : Option ℕ) (was kept : Page) → from + n ≡ j → r' ≡ Some k → ReadThrough s t m r was →
-    PieceRead t u from n (Differs k) was kept → ReadThrough s u j r' kept
+through_differs : (s t u : Option Both) (m from n j k : ℕ) (r r' : Option ℕ) (was kept : Page) → from + n ≡ j → r' ≡ Some k → ReadThrough s t m r was →
+    PieceRead t u from n (Ok (Some k)) was kept → ReadThrough s u j r' kept
 through_differs s t u m from n j k r r' was kept f z read piece d is =
     let h = read d is in
     let g = piece d h.0 in
@@ -81,6 +81,11 @@ through_differs s t u m from n j k r r' was kept f z read piece d is =
     let H : ℕ → Type 0 = λ x. Highest (nth d.first.has) (nth d.second.has) 0 x (Some k) in
     let v = subst R (sym z) (subst H f (omega arith, i.1, i.2, i.3), p.2) in
     (g.1 ∙ ap (λ (x : Both). Some x) p.1, (λ q. absurd (both_ways (both_live d) q live)), v.0, v.1)
+
+pub through_piece : (s t u : Option Both) (m from n j : ℕ) (r r' found : Option ℕ) (was kept : Page) → m ≡ from → from + n ≡ j → r' ≡ option_or found r → ReadThrough s t m r was →
+    PieceRead t u from n (Ok found) was kept → ReadThrough s u j r' kept
+through_piece s t u m from n j r r' None was kept e f z read piece = through_same s t u m from n j r r' was kept e f z read piece
+through_piece s t u m from n j r r' (Some k) was kept e f z read piece = through_differs s t u m from n j k r r' was kept f z read piece
 
 -- m blocks at the front of the room for a piece
 pub blocks_front : (m : ℕ) (p q : List ℕ) → length p ≡ 262144 → length q ≡ 262144 → m ≤ 256 → blocks_in (take (1024 * m - 0) p) (take (1024 * m - 0) q) ≡ m
@@ -130,8 +135,8 @@ scanned_all s t pages n r kept e read d is long =
     let h = read d is in
     (d, h.0, stays, (λ live. (refl, highest_is d.first.has d.second.has n r kept (long.0 ∙ sym e) (long.1 ∙ sym e) h.2 h.3, h.3)), h.1)
 
-pub scanned_dead : (s t u : Option Both) (pages m from n : ℕ) (r : Option ℕ) (was kept : Page) → ReadThrough s t m r was → PieceRead t u from n Dead was kept → Scanned s u pages None kept
-scanned_dead s t u pages m from n r was kept read piece d is long =
+pub scanned_dead : (s t u : Option Both) (pages m from n : ℕ) (r : Option ℕ) (x : Dead) (was kept : Page) → ReadThrough s t m r was → PieceRead t u from n (Err x) was kept → Scanned s u pages None kept
+scanned_dead s t u pages m from n r x was kept read piece d is long =
     let h = read d is in
     let g = piece d h.0 in
     (g.0, g.1, g.2, (λ live. absurd (both_ways (both_live g.0) g.3 live)), λ _. refl)

@@ -15,8 +15,8 @@ use Rattle.wire.specs.Answers.{refusal_number, refusal_place}
 use Rattle.journal.specs.Journal.{holds, count, book_of, puts_of}
 use Rattle.journal.specs.declared.plan.Plan.TheVariants.{Nothing}
 use Rattle.engine.specs.declared.work.Work.{Work}
-use Rattle.engine.specs.declared.call.Reply.{Reply}
-use Rattle.engine.specs.declared.call.Reply.TheVariants.{Refused, Done, Page as PageRead, Number}
+use Rattle.wire.specs.declared.answer.Answer.{Answer}
+use Rattle.wire.specs.declared.answer.Answer.TheVariants.{Refused, Done, Page as PageRead, Number}
 use Rattle.engine.specs.declared.call.Turn.{Turn}
 use Rattle.engine.specs.Works.{work_writes}
 
@@ -29,10 +29,10 @@ abbrev pub Agree : Both → List Page → Type 0
 Agree d b = (d.first.lives ≡ true → d.first.has ≡ b) × (d.second.lives ≡ true → d.second.has ≡ b)
 
 -- a reply in the book's words, with the page that was read beside it
-abbrev pub reply_means : Reply → Page → book.Answer
+abbrev pub reply_means : Answer (Unit {0}) → Page → book.Answer
 reply_means (Refused r) p = book.refused (refusal_number r) (refusal_place r)
 reply_means Done p = book.done
-reply_means PageRead p = book.page p
+reply_means (PageRead u) p = book.page p
 reply_means (Number n) p = book.number n
 
 -- a block for what comes with a call: a page's bytes, if they are a page's
@@ -74,7 +74,7 @@ Begun before after n c page r =
 
 abbrev pub ByLog : List Page → Page → Both → Option Log → Type 0
 ByLog b list e None = one_lives e ≡ false
-ByLog b list e (Some log) = (holds b ≡ log.holds) × (count b ≡ log.count) × (nth b 1 ≡ list)
+ByLog b list e (Some log) = (holds b ≡ log.holds) × (count b ≡ log.count.writes) × (nth b 1 ≡ list)
 
 -- header and list read together
 abbrev pub LogRead : Option Both → Option Both → ℕ → Page → Option Log → Type 0
@@ -82,13 +82,13 @@ LogRead before after n list r =
     (d : Both) → before ≡ Some d → (b : List Page) → Agree d b → length b ≡ n + first_page →
     (e : Both) × (after ≡ Some e) × Ran [] (view d) (view e) × ByLog b list e r
 
-abbrev pub ByReply : ℕ → List Page → Call → Page → Both → Option Reply → Type 0
+abbrev pub ByReply : ℕ → List Page → Call → Page → Both → Option (Answer (Unit {0})) → Type 0
 ByReply n b c page e None = one_lives e ≡ false
 ByReply n b c page e (Some r) = (one_lives e ≡ true) × (reply_means r page ≡ answer (limits n) (book_of b) c)
 
 -- a whole call: all its writes in order, with deaths before, between and after them, and then its answer;
 -- none if both disks died
-abbrev pub Answered : Option Both → Option Both → ℕ → Call → Page → Option Reply → Type 0
+abbrev pub Answered : Option Both → Option Both → ℕ → Call → Page → Option (Answer (Unit {0})) → Type 0
 Answered before after n c page r =
     (d : Both) → before ≡ Some d → (b : List Page) → Agree d b → length b ≡ n + first_page →
     (e : Both) × (after ≡ Some e) × Ran (mirrored copies (puts_of (limits n) b c)) (view d) (view e) × ByReply n b c page e r

@@ -11,7 +11,7 @@ use Rattle.mirror.specs.Mirror.{mirrored}
 use Rattle.promise.specs.Register.{register, recovery_writes}
 use Rattle.device.specs.Ran.{Ran, Both, view, one_lives}
 use Rattle.journal.specs.Journal.{puts_of}
-use Rattle.engine.specs.declared.call.Reply.{Reply}
+use Rattle.wire.specs.declared.answer.Answer.{Answer}
 use Rattle.engine.specs.Calling.{limits, reply_means}
 use Rattle.engine.specs.Recovering.{OfPages, source_of}
 
@@ -27,13 +27,13 @@ Reached n d hs = Lived plain register (limits n) (resting (view d) hs)
 abbrev pub Explained : ℕ → List Happening → Type 0
 Explained n hs = (b : Book) × Explains (limits n) hs b
 
-abbrev pub ByLife : ℕ → Call → Page → List Happening → Both → Option Reply → Type 0
+abbrev pub ByLife : ℕ → Call → Page → List Happening → Both → Option (Answer (Unit {0})) → Type 0
 ByLife n c page hs e None = one_lives e ≡ false
 ByLife n c page hs e (Some r) = Reached n e (was_told c (reply_means r page) ∷ hs) × Explained n (was_told c (reply_means r page) ∷ hs)
 
 -- a call on disks at rest that can be reached leads to disks at rest that can be reached, with the answer in
 -- their past, and a book explains that past; unless both disks died
-abbrev pub AnswerLives : Option Both → Option Both → ℕ → Call → Page → Option Reply → Type 0
+abbrev pub AnswerLives : Option Both → Option Both → ℕ → Call → Page → Option (Answer (Unit {0})) → Type 0
 AnswerLives before after n c page r =
     (d : Both) (hs : List Happening) → before ≡ Some d → GoodSize (limits n) → Reached n d hs → (e : Both) × (after ≡ Some e) × ByLife n c page hs e r
 

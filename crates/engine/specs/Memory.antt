@@ -6,8 +6,8 @@ use Rattle.wire.specs.Answers.{refusal_number, refusal_place}
 use Rattle.journal.specs.declared.plan.Plan.{Plan}
 use Rattle.journal.specs.declared.plan.Plan.TheVariants.{Nothing, Write, Close, Replay, Make}
 use Rattle.engine.specs.declared.work.Work.{Work}
-use Rattle.engine.specs.declared.call.Reply.{Reply}
-use Rattle.engine.specs.declared.call.Reply.TheVariants.{Refused, Done, Page as PageRead, Number}
+use Rattle.wire.specs.declared.answer.Answer.{Answer}
+use Rattle.wire.specs.declared.answer.Answer.TheVariants.{Refused, Done, Page as PageRead, Number}
 
 -- bytes as one number, low byte first
 unfoldable pub number_of : List ℕ → ℕ
@@ -30,19 +30,19 @@ copy_numbers (Some k) = 1 ∷ (k ∷ [])
 
 abbrev pub plan_numbers : Plan → List ℕ
 plan_numbers Nothing = 0 ∷ []
-plan_numbers (Write n p) = 1 ∷ (n ∷ (p ∷ []))
-plan_numbers (Close n) = 2 ∷ (n ∷ [])
-plan_numbers (Replay n) = 3 ∷ (n ∷ [])
-plan_numbers (Make k) = 4 ∷ (k ∷ [])
+plan_numbers (Write n p) = 1 ∷ (n.place ∷ (p ∷ []))
+plan_numbers (Close n) = 2 ∷ (n.writes ∷ [])
+plan_numbers (Replay n) = 3 ∷ (n.writes ∷ [])
+plan_numbers (Make k) = 4 ∷ (k.blocks ∷ [])
 
 -- a recovery and a making have no reply
-abbrev pub reply_numbers : Option Reply → List ℕ
+abbrev pub reply_numbers : Option (Answer (Unit {0})) → List ℕ
 reply_numbers None = 0 ∷ []
 reply_numbers (Some (Refused r)) = 1 ∷ (refusal_number r ∷ (refusal_place r ∷ []))
 reply_numbers (Some Done) = 2 ∷ []
-reply_numbers (Some PageRead) = 3 ∷ []
+reply_numbers (Some (PageRead u)) = 3 ∷ []
 reply_numbers (Some (Number n)) = 4 ∷ (n ∷ [])
 
 -- the reply, the work, the block held for the second disk, and the page beside the reply
-abbrev pub memory_of : Option Reply → Work → Page → Page → List ℕ
+abbrev pub memory_of : Option (Answer (Unit {0})) → Work → Page → Page → List ℕ
 memory_of r w held page = reply_numbers r ++ (copy_numbers w.copy ++ (plan_numbers w.plan ++ (packed w.list ++ (packed w.block ++ (packed held ++ packed page)))))

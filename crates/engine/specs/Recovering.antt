@@ -3,7 +3,7 @@
 -- Power may have gone between the two writes of one block. So both disks are read through, in pieces, and
 -- the highest block in which they differ is copied from the first to the second. A disk may die at any of
 -- the reads; from then on the other alone is gone by, and nothing is copied.
-use Rattle.std.specs.Prelude.{◌≡◌, ℕ, suc, ◌+◌, ◌/◌, ◌<◌, ◌≤◌, min, Bool, true, false, List, [], ◌∷◌, length, Some, None, Option, ◌≢◌}
+use Rattle.std.specs.Prelude.{◌≡◌, ℕ, suc, ◌+◌, ◌/◌, ◌<◌, ◌≤◌, min, Bool, true, false, List, [], ◌∷◌, length, Some, None, Option, Ok, Err, Result, ◌≢◌}
 use Rattle.model.specs.Numbers.{page_size, first_page}
 use Rattle.model.specs.Book.{Page, nth}
 use Rattle.model.specs.Disks.{seen}
@@ -14,8 +14,7 @@ use Rattle.device.specs.Ran.{Ran, Both, view, one_lives, both_live}
 use Rattle.journal.specs.Journal.{holds, recovery}
 use Rattle.journal.specs.Plans.{replays, plan_puts}
 use Rattle.promise.specs.Register.{recovery_writes}
-use Rattle.engine.specs.declared.recover.Piece.{Piece}
-use Rattle.engine.specs.declared.recover.Piece.TheVariants.{Dead, Same, Differs}
+use Rattle.device.specs.declared.Dead.{Dead}
 use Rattle.engine.specs.declared.work.Work.{Work}
 use Rattle.engine.specs.Works.{work_writes}
 use Rattle.engine.specs.Doing.{LogSame, Copies}
@@ -34,13 +33,13 @@ abbrev pub blocks_in : List ℕ → List ℕ → ℕ
 blocks_in p q = min (length p) (length q) / page_size
 
 -- what a piece of n blocks shows, from d to e; kept: the first disk's block, where they differ
-abbrev pub PieceMeans : Both → Both → ℕ → ℕ → Piece → Page → Page → Type 0
-PieceMeans d e from n Dead was kept = both_live e ≡ false
-PieceMeans d e from n Same was kept = (both_live e ≡ true) × (e ≡ d) × (kept ≡ was) × Highest (nth d.first.has) (nth d.second.has) from (from + n) None
-PieceMeans d e from n (Differs k) was kept =
+abbrev pub PieceMeans : Both → Both → ℕ → ℕ → Result (Option ℕ) Dead → Page → Page → Type 0
+PieceMeans d e from n (Err x) was kept = both_live e ≡ false
+PieceMeans d e from n (Ok None) was kept = (both_live e ≡ true) × (e ≡ d) × (kept ≡ was) × Highest (nth d.first.has) (nth d.second.has) from (from + n) None
+PieceMeans d e from n (Ok (Some k)) was kept =
     (both_live e ≡ true) × (e ≡ d) × (kept ≡ nth d.first.has k) × Highest (nth d.first.has) (nth d.second.has) from (from + n) (Some k)
 
-abbrev pub PieceRead : Option Both → Option Both → ℕ → ℕ → Piece → Page → Page → Type 0
+abbrev pub PieceRead : Option Both → Option Both → ℕ → ℕ → Result (Option ℕ) Dead → Page → Page → Type 0
 PieceRead before after from n r was kept =
     (d : Both) → before ≡ Some d → (e : Both) × (after ≡ Some e) × Ran [] (view d) (view e) × PieceMeans d e from n r was kept
 

@@ -8,7 +8,7 @@ use Rattle.mirror.specs.Mirror.{mirrored}
 use Rattle.device.specs.declared.mirror.Side.{Side}
 use Rattle.device.specs.declared.mirror.Side.TheVariants.{First, Second}
 use Rattle.device.specs.Ran.{side_number}
-use Rattle.journal.specs.Plans.{Placed, ReadsLog, content, plan_puts}
+use Rattle.journal.specs.Plans.{ReadsLog, content, plan_puts}
 use Rattle.journal.specs.declared.plan.Plan.{Plan}
 use Rattle.engine.specs.declared.write.WriteKind.{WriteKind}
 use Rattle.engine.specs.declared.write.WriteKind.TheVariants.{Copied, Journal}
@@ -27,18 +27,14 @@ written kept b (Journal k) = content kept b k
 abbrev pub write_means : Page → List Page → Write → On Put
 write_means kept b w = on (side_number w.disk) (record { block = w.block; content = written kept b w.kind })
 
-abbrev pub KindPlaced : WriteKind → Type 0
-KindPlaced Copied = Unit {0}
-KindPlaced (Journal k) = Placed k
-
 abbrev pub KindReads : Plan → WriteKind → Type 0
 KindReads q Copied = Unit {0}
 KindReads q (Journal k) = ReadsLog q k
 
--- a write whose kind has its place, and reads the log only where the plan replays it
-abbrev pub WellPlaced : Plan → Option Write → Type 0
-WellPlaced q None = Unit {0}
-WellPlaced q (Some w) = KindPlaced w.kind × KindReads q w.kind
+-- a write that reads the log only where the plan replays it
+abbrev pub ReadsWhatIsReplayed : Plan → Option Write → Type 0
+ReadsWhatIsReplayed q None = Unit {0}
+ReadsWhatIsReplayed q (Some w) = KindReads q w.kind
 
 -- the copy goes on the second disk alone
 abbrev pub copy_writes : Option ℕ → Page → List (On Put)

@@ -8,8 +8,10 @@ ghost use Rattle.engine.specs.Memory.{packed, copy_numbers, plan_numbers, reply_
 use crate::call::Reply;
 use crate::work::Work;
 use journal::plan::Plan;
+use octets::Block;
+use wire::answer::Answer;
 
-fn of_block(block: &[u8; 1024]) -> u32
+fn of_block(block: &Block) -> u32
     ensures value { result ≡ length (packed block.now) }
     ensures bound { result ≤ 128 }
 {
@@ -42,15 +44,15 @@ fn of_reply(reply: Option<Reply>) -> u32
     ensures bound { result ≤ 3 }
 {
     match reply {
-        None | Some(Reply::Done) | Some(Reply::Page) => 1,
-        Some(Reply::Number(_)) => 2,
-        Some(Reply::Refused(_)) => 3,
+        None | Some(Answer::Done | Answer::Page(())) => 1,
+        Some(Answer::Number(_)) => 2,
+        Some(Answer::Refused(_)) => 3,
     }
 }
 
 // How many numbers of eight bytes are kept: the reply, if there is one, the work, the block that is held for
 // the second disk, and the page beside the reply.
-pub fn numbers_kept(reply: Option<Reply>, work: &Work, held: &[u8; 1024], page: &[u8; 1024]) -> u32
+pub fn numbers_kept(reply: Option<Reply>, work: &Work, held: &Block, page: &Block) -> u32
     ensures value { result ≡ length (memory_of reply work.now held.now page.now) }
     ensures bound { result ≤ 1024 }
 {

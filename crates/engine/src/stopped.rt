@@ -5,9 +5,7 @@
 // then is a world that can be reached, from which recovery goes on.
 ghost use Rattle.engine.specs.Living.{StoppedCallLives, StoppedRecoveryLives};
 
-pub fn stops_stand() -> u8
+pub fn stops_stand()
     ensures call { StoppedCallLives }
     ensures recovery { StoppedRecoveryLives }
-{
-    0
-}
+{}

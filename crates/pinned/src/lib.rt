@@ -5,46 +5,50 @@
 // lives. So they would fail, and not fall silent, if of a disk in memory less were known than that.
 #![tactic(auto)]
 
-ghost use Rattle.std.specs.Prelude.{◌≡◌, false, is_some, Some};
+ghost use Rattle.std.specs.Prelude.{◌≡◌, is_ok, Some};
+ghost use Rattle.std.specs.Result.{result_ok};
 ghost use Rattle.wire.specs.Calls.{call_of};
 ghost use Rattle.engine.specs.Calling.{Answered};
 ghost use Rattle.engine.specs.Living.{AnswerLives, RecoveryLives, MakingLives};
 ghost use Rattle.engine.specs.Making.{NoRegister, Made};
 ghost use Rattle.engine.specs.Recovering.{Recovered};
-ghost use Rattle.pinned.specs.InMemory.{both_of};
+ghost use Rattle.device.specs.InMemory.{both_of};
 
+use device::Dead;
 use device::memory::MemDisk;
 use device::mirror::Mirror;
 use engine::call::Reply;
+use engine::make::NotMade;
 use engine::work::Work;
 use engine::{call, make, recover};
+use octets::Block;
 
-// A whole call. None: both disks are dead.
+// A whole call, unless both disks are dead.
 pub fn answer_in_memory(
     disks: &mut Mirror<MemDisk>,
     pages: u32,
     bytes: &[u8],
-    page: &mut [u8; 1024],
-) -> Option<Reply>
-    ensures told { Answered (Some (both_of disks.old)) (Some (both_of disks.new)) pages (call_of bytes.now) page.new result }
-    ensures lives { AnswerLives (Some (both_of disks.old)) (Some (both_of disks.new)) pages (call_of bytes.now) page.new result }
+    page: &mut Block,
+) -> Result<Reply, Dead>
+    ensures told { Answered (Some (both_of disks.old)) (Some (both_of disks.new)) pages (call_of bytes.now) page.new (result_ok result) }
+    ensures lives { AnswerLives (Some (both_of disks.old)) (Some (both_of disks.new)) pages (call_of bytes.now) page.new (result_ok result) }
 {
     call::answer(disks, pages, bytes, page)
 }
 
-// A whole recovery, and what it wrote. None: both disks are dead.
-pub fn recover_in_memory(disks: &mut Mirror<MemDisk>, pages: u32) -> Option<Work>
-    ensures done { Recovered (Some (both_of disks.old)) (Some (both_of disks.new)) pages (is_some result) }
-    ensures lives { RecoveryLives (Some (both_of disks.old)) (Some (both_of disks.new)) pages (is_some result) }
+// A whole recovery, unless both disks are dead: what it wrote.
+pub fn recover_in_memory(disks: &mut Mirror<MemDisk>, pages: u32) -> Result<Work, Dead>
+    ensures done { Recovered (Some (both_of disks.old)) (Some (both_of disks.new)) pages (is_ok result) }
+    ensures lives { RecoveryLives (Some (both_of disks.old)) (Some (both_of disks.new)) pages (is_ok result) }
 {
     recover::recover(disks, pages)
 }
 
-// New disks. False: no register has so many pages, or both disks are dead.
-pub fn make_in_memory(disks: &mut Mirror<MemDisk>, pages: u32) -> bool
-    ensures done { Made (Some (both_of disks.old)) (Some (both_of disks.new)) pages result }
-    ensures refused { NoRegister pages → (disks.new ≡ disks.old) × (result ≡ false) }
-    ensures lives { MakingLives (Some (both_of disks.old)) (Some (both_of disks.new)) pages result }
+// New disks.
+pub fn make_in_memory(disks: &mut Mirror<MemDisk>, pages: u32) -> Result<(), NotMade>
+    ensures done { Made (Some (both_of disks.old)) (Some (both_of disks.new)) pages (is_ok result) }
+    ensures refused { NoRegister pages → (disks.new ≡ disks.old) × (result ≡ Err NotMade.Pages) }
+    ensures lives { MakingLives (Some (both_of disks.old)) (Some (both_of disks.new)) pages (is_ok result) }
 {
     make::make(disks, pages)
 }

@@ -1,3 +1,4 @@
 mod Lists
+mod Padding
 mod Steps
 mod Stated

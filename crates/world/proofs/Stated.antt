@@ -3,10 +3,13 @@
 use Rattle.std.proofs.Common.{◌≡◌, ℕ, ◌*◌, ◌/◌, Bool, true, false, not, leb, List, [], ◌∷◌, ◌++◌, length, drop, is_some, Some, None, Option, sym, refl, ap, ◌∙◌, subst, arith, drop_of_length-le}
 use lib.Seq.{drop-length}
 use Rattle.std.proofs.lemmas.Bool.{both_ways, leb-true}
-use Rattle.model.specs.Book.{Page, Call}
+use Rattle.model.specs.Book.{Page, Call, Answer}
 use Rattle.model.specs.Disks.{Happening, cut}
 use Rattle.model.specs.Disks as disks
 use Rattle.device.specs.Ran.{Ran, Both, view, one_lives, Fetched}
+use Rattle.wire.specs.Answers.{repaged}
+use Rattle.wire.specs.declared.answer.Answer as answers
+use Rattle.wire.specs.declared.answer.Answer.TheVariants.{Refused, Done, Page as PageTold, Number}
 use Rattle.engine.specs.declared.work.Work.{Work}
 use Rattle.engine.specs.declared.call.Turn.{Turn}
 use Rattle.engine.specs.Works.{work_writes}
@@ -14,10 +17,11 @@ use Rattle.engine.specs.Calling.{reply_means, Begun}
 use Rattle.engine.specs.Recovering.{OfPages, RecoveryBegun}
 use Rattle.engine.specs.Making.{Makes}
 use Rattle.engine.specs.Living.{MakingLives}
+use Rattle.wire.specs.Calls.{call_of}
 use Rattle.world.specs.declared.history.Under.{Under}
 use Rattle.world.specs.declared.history.Event.{Event}
 use Rattle.world.specs.declared.history.Event.TheVariants.{Answered}
-use Rattle.world.specs.Means.{asked_call, told_answer, event_of, past_of, under_of}
+use Rattle.world.specs.Means.{told_answer, event_of, past_of, under_of}
 use Rattle.world.specs.Reached.{Reached}
 use Rattle.world.proofs.Lists.{some_same}
 use Rattle.world.proofs.Steps.{died, told, up_again, began, began_none, power_gone, power_gone_again, power_kept, new_world}
@@ -50,6 +54,13 @@ pub nobody : (u : Option Under) → is_some u ≡ false → under_of u ≡ []
 nobody None e = refl
 nobody (Some x) e = absurd (both_ways true e refl)
 
+-- an answer with the page inside means what it meant with the page beside it
+pub told_repaged : (r : answers.Answer (Unit {0})) (p : Page) → reply_means r p ≡ told_answer (repaged r p)
+told_repaged (Refused x) p = refl
+told_repaged Done p = refl
+told_repaged (PageTold u) p = refl
+told_repaged (Number x) p = refl
+
 -- nothing happened
 pub past_kept : (d : Both) (n : ℕ) (up : Bool) (w : Work) (k : ℕ) (held : Page) (un : List disks.Under) (es fs : List Event) → fs ≡ es →
     Reached d n up w k held un (past_of es []) → Reached d n up w k held un (past_of fs [])
@@ -64,7 +75,7 @@ module _ (d : Both) (n : ℕ) (w : Work) (k : ℕ) (held : Page) where
       let P : List Happening → Type 0 = λ hs. Reached d n true w k held [] hs in
       let W : Bool → Type 0 = λ x. Reached d n x w k held [] (past_of fs []) in
       subst W (sym is) (subst P (sym (past_grown es fs (Answered u.call u.answer) f))
-      (told d n w k held (asked_call u.call) (told_answer u.answer) (past_of es []) al none (subst V e (subst U is q))))
+      (told d n w k held (call_of u.call) (told_answer u.answer) (past_of es []) al none (subst V e (subst U is q))))
 
   pub rises : (up : Bool) (un : List disks.Under) (hs : List Happening) → up ≡ false → ((b : List Page) → drop k (work_writes w b) ≡ []) → Reached d n up w k held un hs → Reached d n true w k held [] hs
   rises up un hs is none q =
@@ -72,15 +83,17 @@ module _ (d : Both) (n : ℕ) (w : Work) (k : ℕ) (held : Page) where
       up_again d n w k held un hs none (subst U is q)
 
   module _ (e : Both) where
-    pub starts : (up : Bool) (un : Option Under) (t : Turn) (c c' : Call) (page : Page) (hs : List Happening) → up ≡ true → is_some un ≡ false → one_lives d ≡ true →
-        ((b : List Page) → drop k (work_writes w b) ≡ []) → c ≡ c' → Begun (Some d) (Some e) n c page (Some t) → Reached d n up w k held (under_of un) hs →
-        Reached e n up t.work 0 held (record { call = c'; answer = reply_means t.reply page; memory = [] } ∷ []) hs
-    starts up un t c c' page hs is nb al none same begun q =
+    pub starts : (up : Bool) (un : Option Under) (t : Turn) (a : List ℕ) (said : answers.Answer Page) (held' : Page) (c : Call) (page : Page) (hs : List Happening) → up ≡ true → is_some un ≡ false → one_lives d ≡ true →
+        ((b : List Page) → drop k (work_writes w b) ≡ []) → c ≡ call_of a → said ≡ repaged t.reply page → Begun (Some d) (Some e) n c page (Some t) →
+        Reached d n up w k held (under_of un) hs → Reached e n up t.work 0 held' (record { call = call_of a; answer = told_answer said; memory = [] } ∷ []) hs
+    starts up un t a said held' c page hs is nb al none same told_is start q =
         let U : Bool → Type 0 = λ x. Reached d n x w k held (under_of un) hs in
         let V : List disks.Under → Type 0 = λ x. Reached d n true w k held x hs in
         let C : Call → Type 0 = λ x. Begun (Some d) (Some e) n x page (Some t) in
-        let W : Bool → Type 0 = λ x. Reached e n x t.work 0 held (record { call = c'; answer = reply_means t.reply page; memory = [] } ∷ []) hs in
-        subst W (sym is) (began d e n w k held t c' page hs al none (subst C same begun) (subst V (nobody un nb) (subst U is q)))
+        let A : Answer → Type 0 = λ x. Reached e n true t.work 0 held' (record { call = call_of a; answer = x; memory = [] } ∷ []) hs in
+        let W : Bool → Type 0 = λ x. Reached e n x t.work 0 held' (record { call = call_of a; answer = told_answer said; memory = [] } ∷ []) hs in
+        subst W (sym is) (subst A (told_repaged t.reply page ∙ ap told_answer (sym told_is))
+        (began d e n w k held held' t (call_of a) page hs al none (subst C same start) (subst V (nobody un nb) (subst U is q))))
 
     pub starts_none : (up : Bool) (un : Option Under) (c : Call) (page : Page) (hs : List Happening) → up ≡ true → is_some un ≡ false → one_lives d ≡ true →
         ((b : List Page) → drop k (work_writes w b) ≡ []) → Begun (Some d) (Some e) n c page None → Reached d n up w k held (under_of un) hs → Reached e n up w k held (under_of un) hs

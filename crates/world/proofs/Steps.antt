@@ -1,5 +1,5 @@
 -- Steps of a world in memory as steps of the model, each by the model's step of that name.
-use Rattle.std.proofs.Common.{◌≡◌, ℕ, ◌+◌, Bool, true, false, ◌||◌, ◌⊎◌, List, [], ◌∷◌, ◌++◌, drop, Some, None, Option, sym, refl, ap, ◌∙◌, subst, inl, inr, add-one}
+use Rattle.std.proofs.Common.{◌≡◌, ℕ, ◌+◌, Bool, true, false, ◌||◌, ◌⊎◌, List, [], ◌∷◌, ◌++◌, drop, Some, None, Option, vec_items, sym, refl, ap, ◌∙◌, subst, inl, inr, add-one}
 use Rattle.std.specs.List.{slice_get as item}
 use Rattle.std.proofs.lemmas.Bool.{both_ways, or_cases, or_left, or_right}
 use Rattle.model.specs.Numbers.{copies}
@@ -12,7 +12,11 @@ use Rattle.model.specs.Statements.{GoodSize}
 use Rattle.mirror.specs.Mirror.{mirrored}
 use Rattle.promise.specs.Register.{register, recovery_writes}
 use Rattle.promise.proofs.Right.{is_right}
+use Rattle.device.specs.Blocks.{whole}
 use Rattle.device.specs.Known.{Known}
+use Rattle.device.specs.Sides.{disk_at, with_disk}
+use Rattle.device.specs.declared.memory.MemDisk.{MemDisk}
+use Rattle.device.specs.declared.mirror.Mirror.{Mirror}
 use Rattle.device.specs.Ran as ran
 use Rattle.device.specs.Ran.{Ran, stays, Both, view, one_lives}
 use Rattle.device.specs.declared.mirror.Side.{Side}
@@ -34,6 +38,7 @@ use Rattle.engine.specs.Living as living
 use Rattle.engine.specs.Living.{Explained, MakingLives}
 use Rattle.engine.proofs.LogKept.{AllKeep, ran_keeps, keep_mirrored, replay_keeps}
 use Rattle.engine.proofs.Living.{ran_alive, view_alive, busy, run_lives, rested, explained, died_lives, fallen_none, log_agrees, of_pages}
+use Rattle.device.specs.InMemory.{disk_of, both_of}
 use Rattle.world.specs.Reached.{HeldFor, GoesBy, Reached}
 use Rattle.world.proofs.Lists.{some_same, drop_item, on_first, pair_held, first_held, keep_item}
 
@@ -68,34 +73,22 @@ died d e n up w k held un hs r q = (
       ),
 )
 
-pub first_dead : (d : Both) (a : Known) → a.has ≡ d.first.has → a.lives ≡ false → Ran [] (view d) (view (record { first = a; second = d.second }))
+-- a disk of a side that is dead now
+pub side_dead : (m : Mirror MemDisk) (s : Side) (a : MemDisk) → a.bytes ≡ (disk_at s m).bytes → a.alive ≡ false → Ran [] (view (both_of m)) (view (both_of (with_disk s m a)))
 unfolding killed_from
-first_dead d a h l =
-    let P : Known → Type 0 = λ x. Ran [] (view d) (view (record { first = x; second = d.second })) in
-    let e : record { has = d.first.has; lives = false } ≡ a = λ i. record { has = sym h i; lives = sym l i } in
+side_dead m First a same dead =
+    let P : Known → Type 0 = λ x. Ran [] (view (both_of m)) (view (record { first = x; second = disk_of m.second })) in
+    let e : record { has = (disk_of m.first).has; lives = false } ≡ disk_of a = λ i. record { has = whole (vec_items (sym same i)); lives = sym dead i } in
     subst P e (ran.dies 0 stays)
-
-pub second_dead : (d : Both) (a : Known) → a.has ≡ d.second.has → a.lives ≡ false → Ran [] (view d) (view (record { first = d.first; second = a }))
-unfolding killed_from
-second_dead d a h l =
-    let P : Known → Type 0 = λ x. Ran [] (view d) (view (record { first = d.first; second = x })) in
-    let e : record { has = d.second.has; lives = false } ≡ a = λ i. record { has = sym h i; lives = sym l i } in
+side_dead m Second a same dead =
+    let P : Known → Type 0 = λ x. Ran [] (view (both_of m)) (view (record { first = disk_of m.first; second = x })) in
+    let e : record { has = (disk_of m.second).has; lives = false } ≡ disk_of a = λ i. record { has = whole (vec_items (sym same i)); lives = sym dead i } in
     subst P e (ran.dies 1 stays)
 
--- disks that are the same
-pub same_first : (d : Both) (a : Known) (n : ℕ) (up : Bool) (w : Work) (k : ℕ) (held : Page) (un : List Under) (hs : List Happening) → a.has ≡ d.first.has → a.lives ≡ d.first.lives →
-    Reached d n up w k held un hs → Reached (record { first = a; second = d.second }) n up w k held un hs
-same_first d a n up w k held un hs h l q =
-    let P : Known → Type 0 = λ x. Reached (record { first = x; second = d.second }) n up w k held un hs in
-    let e : d.first ≡ a = λ i. record { has = sym h i; lives = sym l i } in
-    subst P e q
-
-pub same_second : (d : Both) (a : Known) (n : ℕ) (up : Bool) (w : Work) (k : ℕ) (held : Page) (un : List Under) (hs : List Happening) → a.has ≡ d.second.has → a.lives ≡ d.second.lives →
-    Reached d n up w k held un hs → Reached (record { first = d.first; second = a }) n up w k held un hs
-same_second d a n up w k held un hs h l q =
-    let P : Known → Type 0 = λ x. Reached (record { first = d.first; second = x }) n up w k held un hs in
-    let e : d.second ≡ a = λ i. record { has = sym h i; lives = sym l i } in
-    subst P e q
+-- a disk of a side that has the same and lives as before
+pub side_same : (m : Mirror MemDisk) (s : Side) (a : MemDisk) → a.bytes ≡ (disk_at s m).bytes → a.alive ≡ (disk_at s m).alive → both_of m ≡ both_of (with_disk s m a)
+side_same m First a same lives = λ i. record { first = record { has = whole (vec_items (sym same i)); lives = sym lives i }; second = disk_of m.second }
+side_same m Second a same lives = λ i. record { first = disk_of m.first; second = record { has = whole (vec_items (sym same i)); lives = sym lives i } }
 
 -- the answer is told
 pub told : (d : Both) (n : ℕ) (w : Work) (k : ℕ) (held : Page) (c : Call) (a : Answer) (hs : List Happening) → one_lives d ≡ true → ((b : List Page) → drop k (work_writes w b) ≡ []) →
@@ -216,11 +209,11 @@ begun_by d e w b held agree r none (inl is) =
     (c, (list_second w.list, subst R (sym is) (λ h. absurd (both_ways false refl h)), copies_none w c none, begun_held w c held none), nothing_else w c b is)
 begun_by d e w b held agree r none (inr is) = (b, (is, (λ h. ran_keeps b tt r (agree_log d b agree)), copies_none w b none, begun_held w b held none), refl)
 
-pub began : (d e : Both) (n : ℕ) (w : Work) (k : ℕ) (held : Page) (t : Turn) (c : Call) (page : Page) (hs : List Happening) → one_lives d ≡ true → ((b : List Page) → drop k (work_writes w b) ≡ []) →
+pub began : (d e : Both) (n : ℕ) (w : Work) (k : ℕ) (held held' : Page) (t : Turn) (c : Call) (page : Page) (hs : List Happening) → one_lives d ≡ true → ((b : List Page) → drop k (work_writes w b) ≡ []) →
     Begun (Some d) (Some e) n c page (Some t) → Reached d n true w k held [] hs →
-    Reached e n true t.work 0 held (record { call = c; answer = reply_means t.reply page; memory = [] } ∷ []) hs
+    Reached e n true t.work 0 held' (record { call = c; answer = reply_means t.reply page; memory = [] } ∷ []) hs
 unfolding seen
-began d e n w k held t c page hs al none start q = (
+began d e n w k held held' t c page hs al none start q = (
   q.0,
   q.1,
   λ there.
@@ -238,7 +231,7 @@ began d e n w k held t c page hs al none start q = (
       let on : F b = subst F here.3 (begins c rest refl refl refl) in
       let A : Answer → Type 0 = λ a. Lived plain register l (busy [] true (u a ∷ []) hs (view d) (mirrored copies (puts_of l b c))) in
       let W : List (On Put) → Type 0 = λ ws. Lived plain register l (busy [] true (u (reply_means t.reply page) ∷ []) hs (view e) ws) in
-      let by = begun_by d e t.work b held here.1 r f.3.2 f.3.3 in
+      let by = begun_by d e t.work b held' here.1 r f.3.2 f.3.3 in
       let there_on = run_lives l [] true (u (reply_means t.reply page) ∷ []) hs (mirrored copies (puts_of l b c)) r (view_alive e there) (subst A (sym f.3.0) on) in
       (by.0, by.1, back_to W by.2 (back_to W f.3.1 there_on)),
 )

@@ -1,3 +1,4 @@
 pub mod Means
+pub mod Padded
 pub mod Reached
 pub mod Steps

@@ -1,16 +1,11 @@
 -- What a step does to what is asked and to what happened. Definitions only.
-use Rattle.std.specs.Prelude.{◌≡◌, Bool, List, [], ◌∷◌, ◌++◌, Some, None, Option}
-use Rattle.device.specs.declared.memory.MemDisk.{MemDisk}
-use Rattle.device.specs.declared.mirror.Mirror.{Mirror}
-use Rattle.device.specs.declared.mirror.Side.{Side}
-use Rattle.device.specs.declared.mirror.Side.TheVariants.{First, Second}
-use Rattle.world.specs.declared.history.Asked.{Asked}
+use Rattle.std.specs.Prelude.{◌≡◌, ℕ, List, [], ◌∷◌, ◌++◌, Some, None, Option}
 use Rattle.world.specs.declared.history.Under.{Under}
 use Rattle.world.specs.declared.history.Event.{Event}
 use Rattle.world.specs.declared.history.Event.TheVariants.{Answered, Cut, Power}
 
 -- this call is under way
-abbrev pub Asks : Option Under → Asked → Type 0
+abbrev pub Asks : Option Under → List ℕ → Type 0
 Asks None a = ⊥
 Asks (Some u) a = u.call ≡ a
 
@@ -23,7 +18,3 @@ Tells (Some u) before after = after ≡ before ++ (Answered u.call u.answer ∷ 
 abbrev pub Cuts : Option Under → List Event → List Event → Type 0
 Cuts None before after = after ≡ before ++ (Power ∷ [])
 Cuts (Some u) before after = after ≡ before ++ (Cut u.call ∷ [])
-
-abbrev pub alive_of : Side → Mirror MemDisk → Bool
-alive_of First m = m.first.alive
-alive_of Second m = m.second.alive

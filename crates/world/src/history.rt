@@ -1,14 +1,30 @@
 // What happened, as anybody outside could know it: calls with their answers, calls that power cut, and power.
-ghost use Rattle.std.specs.Prelude.{◌≡◌, ◌<◌, ◌≤◌, length, take, MatchOption};
+ghost use Rattle.std.specs.Prelude.{◌≡◌, ℕ, ◌<◌, ◌≤◌, List, length, take, MatchOption};
+ghost use Rattle.world.specs.Padded.{padded};
 
-use engine::call::Reply;
+use octets::Block;
+use std::marker::Model;
+use wire::answer::Answer;
 
-// A call, as its bytes: at most a write with one byte too many.
-#[derive(Clone, Copy)]
+// A call, as its bytes: at most a write with one byte too many. Not in a `Vec`, whose copy may fail: a call is
+// copied wherever it is told, and that can't.
+#[derive(Clone, Copy, PartialEq, Eq, Debug)]
 pub struct Asked {
-    bytes: [u8; 1030],
+    // What is behind the call is zero.
+    bytes: [u8; Asked::MOST],
     len: usize,
-    ghost short: { len ≤ 1030 },
+}
+
+impl Model for Asked {
+    ghost Value = { List ℕ };
+
+    ghost view = { λ a. take a.len a.bytes };
+
+    ghost invariant = { λ a. (a.len ≤ 1030) × (length (take a.len a.bytes) ≡ a.len) × (padded (take a.len a.bytes) ≡ a.bytes) };
+
+    ghost inverse = { λ call. record { bytes = padded call; len = length call } };
+
+    ghost inverse_ok = { λ a h. λ i. record { bytes = h.2 i; len = h.1 i } };
 }
 
 impl Asked {
@@ -17,12 +33,12 @@ impl Asked {
 
     // None where there are more bytes than a world keeps.
     pub fn new(call: &[u8]) -> Option<Asked>
-        ensures { MatchOption result (1030 < length call.now) (λ a. take a.len a.bytes ≡ call.now) }
+        ensures { MatchOption result (1030 < length call.now) (λ a. a ≡ call.now) }
     {
         if call.len() > Self::MOST {
             return None;
         }
-        let mut bytes = [0; 1030];
+        let mut bytes = [0; Self::MOST];
         bytes[0..call.len()].copy_from_slice(call);
         Some(Asked {
             bytes,
@@ -31,27 +47,23 @@ impl Asked {
     }
 
     pub fn as_slice(&self) -> &[u8]
-        ensures { result.now ≡ take self.now.len self.now.bytes }
+        ensures { result.now ≡ self.now }
     {
         &self.bytes[0..self.len]
     }
 }
 
-// An answer. The page is what a read tells, and empty beside any other.
-#[derive(Clone, Copy)]
-pub struct Told {
-    pub reply: Reply,
-    pub page: [u8; 1024],
-}
+// An answer as it is told, with the page that a read tells.
+pub type Told = Answer<Block>;
 
 // The call under way. Its answer is known from the start, and told after the last write.
-#[derive(Clone, Copy)]
+#[derive(Clone, Copy, PartialEq, Eq, Debug)]
 pub struct Under {
     pub call: Asked,
     pub answer: Told,
 }
 
-#[derive(Clone, Copy)]
+#[derive(Clone, Copy, PartialEq, Eq, Debug)]
 pub enum Event {
     Answered(Asked, Told),
     // Power went while the call was under way.

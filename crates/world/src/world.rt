@@ -1,22 +1,26 @@
 // The world and its steps.
 //
-// A step that isn't possible now answers false and changes nothing. So what may fail for want of memory, the
+// A step that isn't possible now answers why, and changes nothing. So what may fail for want of memory, the
 // note of what happened, is done first.
-ghost use Rattle.std.specs.Prelude.{◌≡◌, ◌+◌, ◌≤◌, Bool, true, false, List, [], ◌∷◌, ◌++◌, length, IfOk, nat_le};
+ghost use Rattle.std.specs.Prelude.{◌≡◌, ◌+◌, ◌≤◌, true, false, List, [], ◌∷◌, ◌++◌, length, IfOk, OnOk, OnErr, is_ok, nat_le};
 ghost use Rattle.model.specs.Numbers.{first_page};
 ghost use Rattle.model.specs.Book.{Page};
 ghost use Rattle.model.specs.Disks.{Happening, cut};
 ghost use Rattle.device.specs.Ran.{one_lives};
+ghost use Rattle.device.specs.Sides.{disk_at};
 ghost use Rattle.engine.specs.Works.{work_writes};
-ghost use Rattle.world.specs.Means.{disk_of, both_of, event_of, past_of, under_of};
+ghost use Rattle.device.specs.InMemory.{disk_of, both_of};
+ghost use Rattle.world.specs.Means.{event_of, past_of, under_of};
 ghost use Rattle.engine.specs.Living.{Explained};
+ghost use Rattle.world.specs.declared.world.NotTaken.TheVariants.{NoDisk as NoDiskLeft, Memory as NoMemory};
+ghost use Rattle.world.specs.declared.world.Unmade.TheVariants.{Memory as NoRoom};
 ghost use Rattle.world.specs.Reached.{Reached};
-ghost use Rattle.world.specs.Steps.{Asks, Tells, Cuts, alive_of};
+ghost use Rattle.world.specs.Steps.{Asks, Tells, Cuts};
 
-use crate::history::{Asked, Event, Told, Under};
-use device::Device;
+use crate::history::{Asked, Event, Under};
 use device::memory::MemDisk;
 use device::mirror::{Mirror, Pair, Side};
+use device::{Dead, Device};
 use engine::call;
 use engine::make::{make, making};
 use engine::perform::perform;
@@ -24,29 +28,52 @@ use engine::recover::begin_recovery;
 use engine::work::Work;
 use engine::write::Write;
 use layout::places::Layout;
-use std::alloc::{AllocError, Global};
+use octets::{BLOCK, Block, EMPTY};
+use std::alloc::{AllocError, AllocFailed, Global};
+
+// A work, and how far it is.
+#[derive(Clone, Copy)]
+struct Progress {
+    work: Work,
+    // How many of its writes are done.
+    done: u64,
+    // What the last write put: it goes on the second disk too.
+    held: Block,
+}
+
+impl Progress {
+    // A work that begins. Where it copies a block, that is what goes on the second disk first.
+    fn begin(work: Work) -> Progress
+        ensures { result ≡ record { work = work; done = 0; held = work.block } }
+    {
+        let held = work.block;
+        Progress {
+            work,
+            done: 0,
+            held,
+        }
+    }
+}
 
 #[derive(Drop)]
 pub struct World {
     disks: Mirror<MemDisk>,
     pages: u32,
-    // False from when power went until recovery is done.
+    // False from when power went until recovery is done. Beside `under`, as the model's world has both.
     up: bool,
-    // What is written, and how many of its writes are done.
-    work: Work,
-    next: u64,
-    // What the last write put: it goes on the second disk too.
-    held: [u8; 1024],
+    // What is written, and how far it is.
+    progress: Progress,
     under: Option<Under>,
     // The first first.
     past: Vec<Event>,
     // Bytes were put on the disks by hand: nothing is promised since.
     touched: bool,
-    ghost reached: { touched ≡ false → ∥ Reached (both_of disks) pages up work next held (under_of under) (past_of past.items []) ∥₁ },
+    ghost reached: { touched ≡ false → ∥ Reached (both_of disks) pages up progress.work progress.done progress.held (under_of under) (past_of past.items []) ∥₁ },
 }
 
-// Why a world isn't made.
-#[derive(Clone, Copy)]
+// Why a world isn't made. The engine's `NotMade` beside it says of dead disks what no new world has, and nothing of
+// memory, for want of which a world isn't made.
+#[derive(Clone, Copy, PartialEq, Eq, Debug)]
 pub enum Unmade {
     // No pages, or more than a world holds.
     Pages,
@@ -54,8 +81,39 @@ pub enum Unmade {
 }
 
 impl From<AllocError> for Unmade {
+    ghost from_gives = { λ _ error. error ≡ NoRoom };
+
     fn from(_e: AllocError) -> Unmade {
         Unmade::Memory
+    }
+}
+
+// Why a step isn't taken.
+#[derive(Clone, Copy, PartialEq, Eq, Debug)]
+pub enum NotTaken {
+    // It has no place now: power is there or gone, or something is under way, or nothing is.
+    NotNow,
+    // Bytes that are more than a block, or a block that no disk has.
+    Outside,
+    // There is no disk that lives, or would be none.
+    NoDisk,
+    // What happened could not be noted.
+    Memory,
+}
+
+impl From<Dead> for NotTaken {
+    ghost from_gives = { λ _ error. error ≡ NoDiskLeft };
+
+    fn from(_dead: Dead) -> NotTaken {
+        NotTaken::NoDisk
+    }
+}
+
+impl<T: Drop> From<AllocFailed<T>> for NotTaken {
+    ghost from_gives = { λ _ error. error ≡ NoMemory };
+
+    fn from(_failed: AllocFailed<T>) -> NotTaken {
+        NotTaken::Memory
     }
 }
 
@@ -64,7 +122,7 @@ fn raw_disk(heap: Global, pages: u32) -> Result<MemDisk, AllocError>
     requires { pages ≤ 16 }
     ensures { IfOk result (λ d. length (disk_of d).has ≡ pages + first_page) }
 {
-    let bytes = vec![in heap; 0; 1024 * Layout::blocks(pages) as usize]?;
+    let bytes = vec![in heap; 0; BLOCK * Layout::blocks(pages) as usize]?;
     Ok(MemDisk::new(bytes, u64::MAX))
 }
 
@@ -85,24 +143,25 @@ impl World {
 
     // Two new disks for so many pages.
     pub fn new(heap: Global, pages: u32) -> Result<World, Unmade> {
-        if pages == 0 || pages > Self::MOST_PAGES {
+        if pages > Self::MOST_PAGES {
             return Err(Unmade::Pages);
         }
-        let Some(work) = making(pages) else {
-            return Err(Unmade::Pages);
-        };
+        let work = making(pages).ok_or(Unmade::Pages)?;
         let mut disks = Mirror {
             first: raw_disk(heap, pages)?,
             second: raw_disk(heap, pages)?,
         };
-        make(&mut disks, pages);
+        // It doesn't fail: these disks serve more calls than it makes. Nothing rests on that.
+        let _ = make(&mut disks, pages);
         Ok(World {
             disks,
             pages,
             up: true,
-            work,
-            next: work.len(),
-            held: [0; 1024],
+            progress: Progress {
+                work,
+                done: work.len(),
+                held: EMPTY,
+            },
             under: None,
             past: Vec::new(heap),
             touched: false,
@@ -111,180 +170,147 @@ impl World {
 
     // Whether all is written that is to be.
     pub fn is_idle(&self) -> bool
-        ensures { (b : List Page) → result ≡ nat_le (length (work_writes self.now.work b)) self.now.next }
+        ensures { (b : List Page) → result ≡ nat_le (length (work_writes self.now.progress.work b)) self.now.progress.done }
     {
-        self.next >= self.work.len()
+        self.progress.done >= self.progress.work.len()
     }
 
-    // Whether a disk lives.
-    fn has_disk(&self) -> bool
-        ensures { result ≡ one_lives (both_of self.now.disks) }
+    // Fails where no disk lives.
+    fn need_disk(&self) -> Result<(), NotTaken>
+        ensures { is_ok result ≡ one_lives (both_of self.now.disks) }
     {
-        self.disks.is_alive()
+        if self.disks.is_alive() {
+            Ok(())
+        } else {
+            Err(NotTaken::NoDisk)
+        }
     }
 
     // A call begins, if none is under way.
-    pub fn begin(&mut self, asked: &Asked) -> bool
-        ensures begun { result ≡ true → (self.new.next ≡ 0) × Asks self.new.under asked.now }
-        ensures refused { result ≡ false → self.new.under ≡ self.old.under }
+    pub fn begin(&mut self, asked: &Asked) -> Result<(), NotTaken>
+        ensures begun { OnOk result ((self.new.progress.done ≡ 0) × Asks self.new.under asked.now) }
+        ensures refused { OnErr result (self.new.under ≡ self.old.under) }
         ensures past { self.new.past ≡ self.old.past }
     {
-        if !self.up || !self.is_idle() || self.under.is_some() || !self.has_disk() {
-            return false;
+        if !self.up || !self.is_idle() || self.under.is_some() {
+            return Err(NotTaken::NotNow);
         }
-        let mut page = [0; 1024];
-        let Some(turn) = call::begin(&mut self.disks, self.pages, asked.as_slice(), &mut page)
-        else {
-            return false;
-        };
-        self.work = turn.work;
-        self.next = 0;
-        let answer = Told {
-            reply: turn.reply,
-            page,
-        };
+        self.need_disk()?;
+        let mut page = EMPTY;
+        let turn = call::begin(&mut self.disks, self.pages, asked.as_slice(), &mut page)?;
+        self.progress = Progress::begin(turn.work);
         self.under = Some(Under {
             call: *asked,
-            answer,
+            answer: turn.reply.with_page(page),
         });
-        true
+        Ok(())
     }
 
-    // The next block is written. False: there is none.
-    pub fn write_next(&mut self) -> bool
-        ensures written { result ≡ true → self.new.next ≡ self.old.next + 1 }
-        ensures refused { result ≡ false → self.new.next ≡ self.old.next }
+    // The next block is written, if there is one.
+    pub fn write_next(&mut self) -> Result<(), NotTaken>
+        ensures written { OnOk result (self.new.progress.done ≡ self.old.progress.done + 1) }
+        ensures refused { OnErr result (self.new.progress.done ≡ self.old.progress.done) }
         ensures past { self.new.past ≡ self.old.past }
     {
-        if self.next >= self.work.len() || !self.has_disk() {
-            return false;
+        if self.progress.done >= self.progress.work.len() {
+            return Err(NotTaken::NotNow);
         }
-        let Some(write) = self.work.write(self.next) else {
-            return false;
-        };
-        if !perform(&mut self.disks, &self.work, write, &mut self.held) {
-            return false;
-        }
-        self.next += 1;
-        true
+        self.need_disk()?;
+        let progress = &mut self.progress;
+        let write = progress.work.write(progress.done).ok_or(NotTaken::NotNow)?;
+        perform(&mut self.disks, &progress.work, write, &mut progress.held)?;
+        progress.done += 1;
+        Ok(())
     }
 
     // The call under way is answered, if all is written.
-    pub fn tell(&mut self) -> bool
-        ensures told { result ≡ true → Tells self.old.under self.old.past.items self.new.past.items }
-        ensures refused { result ≡ false → (self.new.under ≡ self.old.under) × (self.new.past.items ≡ self.old.past.items) }
+    pub fn tell(&mut self) -> Result<(), NotTaken>
+        ensures told { OnOk result (Tells self.old.under self.old.past.items self.new.past.items) }
+        ensures refused { OnErr result ((self.new.under ≡ self.old.under) × (self.new.past.items ≡ self.old.past.items)) }
         ensures disks { self.new.disks ≡ self.old.disks }
     {
-        if !self.up || !self.is_idle() || !self.has_disk() {
-            return false;
+        if !self.up || !self.is_idle() {
+            return Err(NotTaken::NotNow);
         }
-        let Some(under) = self.under else {
-            return false;
-        };
-        let noted = self.past.push(Event::Answered(under.call, under.answer));
-        if noted.is_err() {
-            return false;
-        }
+        self.need_disk()?;
+        let under = self.under.ok_or(NotTaken::NotNow)?;
+        self.past.push(Event::Answered(under.call, under.answer))?;
         self.under = None;
-        true
+        Ok(())
     }
 
     // A disk dies, if the other lives.
-    pub fn kill(&mut self, side: Side) -> bool
-        ensures dead { result ≡ true → alive_of side self.new.disks ≡ false }
-        ensures refused { result ≡ false → self.new.disks ≡ self.old.disks }
+    pub fn kill(&mut self, side: Side) -> Result<(), NotTaken>
+        ensures dead { OnOk result ((disk_at side self.new.disks).alive ≡ false) }
+        ensures refused { OnErr result (self.new.disks ≡ self.old.disks) }
         ensures past { self.new.past ≡ self.old.past }
     {
-        match side {
-            Side::First => {
-                if !self.disks.second.is_alive() {
-                    return false;
-                }
-                self.disks.first.kill();
-            }
-            Side::Second => {
-                if !self.disks.first.is_alive() {
-                    return false;
-                }
-                self.disks.second.kill();
-            }
+        if !self.disks.disk(side.other()).is_alive() {
+            return Err(NotTaken::NoDisk);
         }
-        true
+        self.disks.disk_mut(side).kill();
+        Ok(())
     }
 
     // Power goes: a call under way is cut, and recovery begins.
-    pub fn power(&mut self) -> bool
-        ensures gone { result ≡ true → (self.new.up ≡ false) × Cuts self.old.under self.old.past.items self.new.past.items }
-        ensures refused { result ≡ false → (self.new.up ≡ self.old.up) × (self.new.past.items ≡ self.old.past.items) }
+    pub fn power(&mut self) -> Result<(), NotTaken>
+        ensures gone { OnOk result ((self.new.up ≡ false) × Cuts self.old.under self.old.past.items self.new.past.items) }
+        ensures refused { OnErr result ((self.new.up ≡ self.old.up) × (self.new.past.items ≡ self.old.past.items)) }
     {
-        if !self.up || !self.has_disk() {
-            return false;
+        if !self.up {
+            return Err(NotTaken::NotNow);
         }
-        let Some(work) = begin_recovery(&mut self.disks, self.pages) else {
-            return false;
-        };
-        let noted = self.past.push(cut_event(self.under));
-        if noted.is_err() {
-            return false;
-        }
+        self.need_disk()?;
+        let work = begin_recovery(&mut self.disks, self.pages)?;
+        self.past.push(cut_event(self.under))?;
         self.up = false;
         self.under = None;
-        self.work = work;
-        self.next = 0;
-        // Where a block is copied, that is what goes on the second disk first.
-        let held = work.block;
-        self.held = held;
-        true
+        self.progress = Progress::begin(work);
+        Ok(())
     }
 
     // Power goes again while recovery is under way, and recovery begins anew.
-    pub fn power_again(&mut self) -> bool
-        ensures gone { result ≡ true → self.new.next ≡ 0 }
+    pub fn power_again(&mut self) -> Result<(), NotTaken>
+        ensures gone { OnOk result (self.new.progress.done ≡ 0) }
         ensures up { self.new.up ≡ self.old.up }
         ensures past { self.new.past ≡ self.old.past }
     {
-        if self.up || !self.has_disk() {
-            return false;
+        if self.up {
+            return Err(NotTaken::NotNow);
         }
-        let Some(work) = begin_recovery(&mut self.disks, self.pages) else {
-            return false;
-        };
+        self.need_disk()?;
+        let work = begin_recovery(&mut self.disks, self.pages)?;
         self.under = None;
-        self.work = work;
-        self.next = 0;
-        let held = work.block;
-        self.held = held;
-        true
+        self.progress = Progress::begin(work);
+        Ok(())
     }
 
     // Power goes, whatever is under way.
-    pub fn cut(&mut self) -> bool {
+    pub fn cut(&mut self) -> Result<(), NotTaken> {
         if self.up {
-            return self.power();
+            self.power()
+        } else {
+            self.power_again()
         }
-        self.power_again()
     }
 
     // Recovery is done, if all of it is written.
-    pub fn recovered(&mut self) -> bool
-        ensures up { result ≡ true → self.new.up ≡ true }
-        ensures refused { result ≡ false → self.new.up ≡ self.old.up }
+    pub fn recovered(&mut self) -> Result<(), NotTaken>
+        ensures up { OnOk result (self.new.up ≡ true) }
+        ensures refused { OnErr result (self.new.up ≡ self.old.up) }
         ensures past { self.new.past ≡ self.old.past }
     {
         if self.up || !self.is_idle() {
-            return false;
+            return Err(NotTaken::NotNow);
         }
         self.up = true;
         self.under = None;
-        true
+        Ok(())
     }
 
     // A disk dies after so many more reads and writes, if it lives: so it can die while it is read.
     pub fn set_left(&mut self, side: Side, left: u64) {
-        match side {
-            Side::First => self.disks.first.set_left(left),
-            Side::Second => self.disks.second.set_left(left),
-        }
+        self.disks.disk_mut(side).set_left(left);
     }
 
     // Another world, as this one is now.
@@ -296,9 +322,7 @@ impl World {
             },
             pages: self.pages,
             up: self.up,
-            work: self.work,
-            next: self.next,
-            held: self.held,
+            progress: self.progress,
             under: self.under,
             past: Vec::from_slice(heap, self.past.as_slice())?,
             touched: self.touched,
@@ -307,19 +331,20 @@ impl World {
 
     // Puts bytes at the start of a block on both disks, at rest. No register does this, and nothing is
     // promised of a world after it: it is for a look at disks that no register wrote.
-    pub fn overwrite(&mut self, block: u64, bytes: &[u8]) -> bool {
-        if !self.up || self.under.is_some() || bytes.len() > 1024 {
-            return false;
+    pub fn overwrite(&mut self, block: u64, bytes: &[u8]) -> Result<(), NotTaken> {
+        if !self.up || self.under.is_some() {
+            return Err(NotTaken::NotNow);
         }
-        let mut whole = [0; 1024];
-        if block >= Layout::blocks(self.pages) || !self.disks.read(block, &mut whole) {
-            return false;
+        if block >= Layout::blocks(self.pages) || bytes.len() > BLOCK {
+            return Err(NotTaken::Outside);
         }
+        let mut whole = EMPTY;
+        self.disks.read(block, &mut whole)?;
         whole[0..bytes.len()].copy_from_slice(bytes);
         self.touched = true;
         let first = self.disks.write(Side::First, block, &whole);
         let second = self.disks.write(Side::Second, block, &whole);
-        first | second
+        Ok(first.or(second)?)
     }
 
     pub fn is_up(&self) -> bool {
@@ -327,10 +352,7 @@ impl World {
     }
 
     pub fn is_alive(&self, side: Side) -> bool {
-        match side {
-            Side::First => self.disks.first.is_alive(),
-            Side::Second => self.disks.second.is_alive(),
-        }
+        self.disks.disk(side).is_alive()
     }
 
     pub fn pages(&self) -> u32 {
@@ -339,17 +361,17 @@ impl World {
 
     // The write that is next, if there is one.
     pub fn upcoming(&self) -> Option<Write> {
-        self.work.write(self.next)
+        self.progress.work.write(self.progress.done)
     }
 
     // How many writes of the work are done.
     pub fn done(&self) -> u64 {
-        self.next
+        self.progress.done
     }
 
     // How many writes the work has.
     pub fn count(&self) -> u64 {
-        self.work.len()
+        self.progress.work.len()
     }
 
     pub fn under(&self) -> Option<Under> {
@@ -373,9 +395,6 @@ impl World {
 
     // A disk's bytes, as they were when it died if it did.
     pub fn disk(&self, side: Side) -> &[u8] {
-        match side {
-            Side::First => self.disks.first.bytes(),
-            Side::Second => self.disks.second.bytes(),
-        }
+        self.disks.disk(side).bytes()
     }
 }

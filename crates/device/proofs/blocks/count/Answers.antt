@@ -1,6 +1,6 @@
-use Rattle.std.proofs.Common.{sym, arith}
+use Rattle.std.proofs.Common.{sym}
 use Rattle.device.proofs.Whole.{length_whole}
 use Rattle.device.proofs.blocks.count.Goals as goal
 
-pub returns : goal.returns
-returns c = record { value = sym (length_whole c.args.disk.now); bound = omega arith }
+pub returns-clause-value : goal.returns-clause-value
+returns-clause-value c = sym (length_whole c.args.disk.now)

@@ -1,18 +1,13 @@
-use Rattle.std.proofs.Common.{◌≡◌, ◌+◌, ◌*◌, ◌≤◌, min, length, refl, ap, ◌∙◌, arith, rules}
-use Rattle.std.proofs.lemmas.List.{places}
+use Rattle.std.proofs.Common.{◌+◌, ◌*◌, ◌≤◌, min, length, ap, ◌∙◌, arith}
 use Rattle.device.specs.Blocks.{whole}
-use Rattle.octets.proofs.Parts.{overwritten_is}
 use Rattle.device.proofs.Whole.{one_more_shown, shown_from_end}
 use Rattle.device.proofs.blocks.read_blocks.Goals as goal
 
 pub loop-i-preserved : goal.loop-i-preserved
 loop-i-preserved c =
-    let p = c.read_block.new.out in
     let i = c.loop-i.i in
     let fits : 1024 * i + 1024 ≤ length c.loop-i.out = omega arith in
-    let l : length p ≡ 1024 = c.read_block.auto.out ∙ search (rules, places) in
-    let e = overwritten_is c.loop-i.out p p (1024 * i) 1024 refl l in
-    λ k h. rw e (one_more_shown c.loop-i.out p (whole c.args.disk.now) c.min-start.result i l fits c.read_block.ensures c.loop-i.invariant k h)
+    λ k h. rw c.put_block.ensures (one_more_shown c.loop-i.out c.at.result.now (whole c.args.disk.now) c.min-start.result i c.at.ensures.len fits c.at.ensures.value c.loop-i.invariant k h)
 
 pub returns : goal.returns
 returns c =

@@ -1,17 +1,14 @@
-use Rattle.std.proofs.Common.{◌≤◌, length, sym, arith}
+use Rattle.std.proofs.Common.{◌≤◌, length, sym, arith, rules}
 use Rattle.device.specs.Blocks.{whole}
 use Rattle.device.proofs.Whole.{set_past, whole_written, block_inside}
 use Rattle.device.proofs.blocks.write_block.Goals as goal
 
-pub overflow_mul-block : goal.overflow_mul-block
-overflow_mul-block c = omega (arith, c.count.ensures.bound)
-
 pub put_block-requires : goal.put_block-requires
-put_block-requires c = (block_inside c.args.disk.now c.args.block (omega (arith, c.count.ensures.value)), c.requires)
+put_block-requires c = block_inside c.args.disk.now c.args.block (omega (arith, c.count.ensures.value))
 
 pub returns-then-block-count : goal.returns-then-block-count
 returns-then-block-count c =
-    whole_written c.args.disk.now _ c.args.bytes.now c.args.block c.requires (omega (arith, c.count.ensures.value)) c.put_block.ensures
+    whole_written c.args.disk.now _ c.args.bytes.now c.args.block (search rules) (omega (arith, c.count.ensures.value)) c.put_block.ensures
 
 pub returns-else-block-count : goal.returns-else-block-count
 returns-else-block-count c =

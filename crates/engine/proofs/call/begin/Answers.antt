@@ -1,4 +1,5 @@
-use Rattle.std.proofs.Common.{◌≡◌, sym, ap, ◌∙◌, subst, arith, rules}
+use Rattle.wire.specs.declared.answer.Answer.TheVariants.{Refused}
+use Rattle.std.proofs.Common.{◌≡◌, refl, sym, ap, ◌∙◌, subst, arith, rules}
 use Rattle.model.specs.Book as book
 use Rattle.model.specs.Book.{bytes, Call}
 use Rattle.octets.proofs.Parts.{bytes_from}
@@ -15,8 +16,8 @@ returns-in-Err g c d is b agree len = (
   d,
   is,
   stays,
-  garbled_turn c.args.pages c.in-Err.place b c.args.page.now c.idle.result (call_of c.args.bytes.now) (sym c.in-Err.ensures)
-      c.idle.ensures.reply c.idle.ensures.plan c.idle.ensures.copy,
+  garbled_turn c.args.pages c.in-Err.error.place b c.args.page.now c.idle.result (call_of c.args.bytes.now) (sym c.in-Err.ensures)
+      (c.idle.ensures.reply ∙ ap Refused c.into.ensures) c.idle.ensures.plan c.idle.ensures.copy,
 )
 
 pub returns-in-Err-admit : goal.returns-in-Err-admit
@@ -46,12 +47,12 @@ begin_logged-requires g c =
       ),
     )
 
-pub returns-else-not-read : goal.returns-else-not-read
-returns-else-not-read g c d is b agree len =
+pub returns-in_ok-read-in-Read : goal.returns-in_ok-read-in-Read
+returns-in_ok-read-in-Read g c d is b agree len =
     let f = c.in-Ok-admit.ensures in
     let a = c.in-Read.number in
     let was : book.read a ≡ meant c.in-Ok.call = ap (λ (x : CodeCall). meant x) (sym c.in-Read.is) ∙ f.1 in
-    let z = page_was_read _ _ c.page.result c.read.new.out _ c.read.ensures c.if-not-read.false (search rules) d is b agree in
+    let z = page_was_read _ _ c.page.result c.read.new.out _ c.in_ok-read-in-Read.ensures refl (search rules) d is b agree in
     let P : Call → Type 0 = λ x. TurnIs c.args.pages b x c.read.new.out c.idle-in-Read.result in (
       z.0,
       z.1,

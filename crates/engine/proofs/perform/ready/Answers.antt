@@ -19,17 +19,17 @@ returns-then-eq g c d is b list can = (
   λ h. absurd (both_ways true h refl),
 )
 
-pub returns-in_default-fill : goal.returns-in_default-fill
-returns-in_default-fill g c d is b list can = (
+pub returns-in-None : goal.returns-in-None
+returns-in-None g c d is b list can = (
   d,
   is,
   stays,
-  (λ _. c.in_default-fill.ensures b list ∙ ap (written c.args.work.now.block b) (sym c.in-Journal.is)),
+  (λ _. c.in-None.ensures b list ∙ ap (written c.args.work.now.block b) (sym c.in-Journal.is)),
   λ h. absurd (both_ways true h refl),
 )
 
-pub returns : goal.returns
-returns g c =
+pub returns-in-Some : goal.returns-in-Some
+returns-in-Some g c =
     let K : WriteKind → Type 0 = λ x. KindReads c.args.work.now.plan x in
     read_readied _ _ c.args.work.now c.args.write c.args.held.now c.read.new.out c.in-Some.block _ c.in-Journal.kind c.in-Journal.is (is_first c.args.write.disk c.if-eq.ensures)
-    (search rules) (subst K c.in-Journal.is c.requires.1) (λ b list. let z = c.in-Some.ensures b list in (z.1, z.2)) c.read.ensures
+    (search rules) (subst K c.in-Journal.is c.requires) (λ b list. let z = c.in-Some.ensures b list in (z.1, z.2)) c.read.ensures

@@ -1,10 +1,15 @@
-use Rattle.std.proofs.Common.{refl, rules}
+use Rattle.std.proofs.Common.{ℕ, List, refl, ap, ◌∙◌, rules}
+use Rattle.layout.specs.Reading.{log_holds, log_count}
 use Rattle.engine.proofs.Recovering.{worked_out}
 use Rattle.engine.proofs.recover.replaying.Goals as goal
 
 pub returns : goal.returns
-returns c = record {
-  keeps = (refl, refl);
-  plan = worked_out c.args.log.now c.copy_from_slice.new.self c.args.block c.args.pages _ _ c.replay-plan.result (search rules) c.copy_from_slice.ensures.after
-      c.decode.ensures.holds c.decode.ensures.count c.replay-plan.ensures.puts;
-}
+returns c =
+    let list = c.of-front.result.list in
+    let header = c.of-front.ensures.header in
+    let holds = c.log.ensures.holds ∙ ap (λ (h : List ℕ). log_holds h list c.args.pages) header in
+    let count = c.log.ensures.count ∙ ap (λ (h : List ℕ). log_count h list c.args.pages) header in
+    record {
+      keeps = (refl, refl);
+      plan = worked_out c.args.bytes.now list c.args.block c.args.pages _ _ c.replay.result (search rules) c.of-front.ensures.list holds count c.replay.ensures;
+    }

@@ -1,14 +1,10 @@
-use Rattle.std.proofs.Common.{Bool, subst}
-use Rattle.device.specs.Known.{Shown}
 use Rattle.device.proofs.Runs.{none_fetched, both_fetched}
 use Rattle.device.proofs.mirror.MirrorPair.read_both.Goals as goal
 
-pub returns-then-not-read : goal.returns-then-not-read
-returns-then-not-read g c =
-    let P : Bool → Type 0 = λ r. Shown (g.D.Device.known c.args.self.now.first) (g.D.Device.known c.read.new.self) c.args.from c.read.new.out r in
-    none_fetched (g.D.Device.known c.args.self.now.first) (g.D.Device.known c.args.self.now.second) _ c.args.from c.read.new.out c.args.second.now (subst P c.if-not-read.true c.read.ensures)
+pub returns-in_err-read : goal.returns-in_err-read
+returns-in_err-read g c =
+    none_fetched (g.D.Device.known c.args.self.now.first) (g.D.Device.known c.args.self.now.second) _ c.args.from c.read.new.out c.args.second.now _ c.from_residual.ensures.0 c.in_err-read.ensures
 
 pub returns : goal.returns
 returns g c =
-    let P : Bool → Type 0 = λ r. Shown (g.D.Device.known c.args.self.now.first) (g.D.Device.known c.read.new.self) c.args.from c.read.new.out r in
-    both_fetched (g.D.Device.known c.args.self.now.first) (g.D.Device.known c.args.self.now.second) _ _ c.args.from c.read.new.out c.read-2.new.out _ (subst P c.if-not-read.false c.read.ensures) c.read-2.ensures
+    both_fetched (g.D.Device.known c.args.self.now.first) (g.D.Device.known c.args.self.now.second) _ _ c.args.from c.read.new.out c.read-2.new.out _ c.in_ok-read.ensures c.read-2.ensures

@@ -1,17 +1,9 @@
-use Rattle.std.proofs.Common.{vec_items, ap}
 use mathlib.Core.Logic.{∥∥₁_map}
-use Rattle.device.specs.Blocks.{whole}
-use Rattle.world.proofs.Steps.{died, first_dead, second_dead}
+use Rattle.world.proofs.Steps.{died, side_dead}
 use Rattle.world.proofs.world.World.kill.Goals as goal
 
 pub invariant_of-self : goal.invariant_of-self
-invariant_of-self c = record {
-  reached = λ t. ∥∥₁_map (c.args.self.now.reached t) (λ q.
-      died _ _ _ _ c.args.self.now.work _ _ _ _ (first_dead _ _ (ap (λ v. whole (vec_items v)) c.kill.ensures.bytes) c.kill.ensures.alive) q);
-}
-
-pub invariant_of-self-in-Second : goal.invariant_of-self-in-Second
-invariant_of-self-in-Second c = record {
-  reached = λ t. ∥∥₁_map (c.args.self.now.reached t) (λ q.
-      died _ _ _ _ c.args.self.now.work _ _ _ _ (second_dead _ _ (ap (λ v. whole (vec_items v)) c.kill-in-Second.ensures.bytes) c.kill-in-Second.ensures.alive) q);
-}
+invariant_of-self c =
+    let old = c.args.self.now in
+    let e = rw c.disk_mut.ensures.value at c.kill.ensures in
+    record { reached = λ t. ∥∥₁_map (old.reached t) (λ q. died _ _ _ _ old.progress.work _ _ _ _ (side_dead old.disks c.args.side c.kill.new.self e.bytes e.alive) q) }

@@ -1,4 +1,5 @@
-use Rattle.std.proofs.Common.{◌≡◌, [], ◌∷◌, ◌++◌, vec_items, sym, rules}
+use Rattle.std.proofs.Common.{◌≡◌, [], ◌∷◌, ◌++◌, vec_items, sym, ap, ◌∙◌, rules}
+use Rattle.std.specs.Result.{result_ok}
 use mathlib.Core.Logic.{∥∥₁_map}
 use Rattle.world.specs.declared.history.Event.TheVariants.{Answered}
 use Rattle.world.proofs.Stated.{nothing_left, past_kept, tells}
@@ -6,12 +7,16 @@ use Rattle.world.proofs.world.World.tell.Goals as goal
 
 pub invariant_of-self : goal.invariant_of-self
 invariant_of-self c =
-    let same : vec_items c.push-noted.new.self ≡ vec_items c.args.self.now.past = search rules in
-    record { reached = λ t. ∥∥₁_map (c.args.self.now.reached t) (λ q. past_kept _ _ _ c.args.self.now.work _ _ _ _ _ same q) }
+    let same : vec_items c.push.new.self ≡ vec_items c.args.self.now.past = search rules in
+    record { reached = λ t. ∥∥₁_map (c.args.self.now.reached t) (λ q. past_kept _ _ _ c.args.self.now.progress.work _ _ _ _ _ same q) }
 
 pub invariant_of-self-2 : goal.invariant_of-self-2
 invariant_of-self-2 c =
-    let more : vec_items c.push-noted.new.self ≡ vec_items c.args.self.now.past ++ (Answered c.in-Some.under.call c.in-Some.under.answer ∷ []) = search rules in record {
-      reached = λ t. ∥∥₁_map (c.args.self.now.reached t) (λ q.
-          tells _ _ c.args.self.now.work _ _ _ _ c.in-Some.under _ _ c.if-not-self.false (sym c.if-not-has_disk.ensures) (nothing_left c.args.self.now.work _ c.if-not-is_idle.ensures) c.in-Some.is more q);
+    let old = c.args.self.now in
+    let under = c.in_ok-under.under in
+    let more : vec_items c.push.new.self ≡ vec_items old.past ++ (Answered under.call under.answer ∷ []) = search rules in
+    record {
+      reached = λ t. ∥∥₁_map (old.reached t) (λ q.
+          tells _ _ old.progress.work _ _ _ _ under _ _ c.if-not-self.false (sym c.in_ok-need_disk.ensures) (nothing_left old.progress.work _ c.if-not-is_idle.ensures)
+          (c.ok_or.ensures.ok_part ∙ ap result_ok c.in_ok-under.was) more q);
     }

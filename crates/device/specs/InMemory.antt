@@ -1,4 +1,4 @@
--- Two disks in memory, by their bytes. Definitions only.
+-- Disks in memory, of which all is known: their bytes. Definitions only.
 use Rattle.std.specs.Prelude.{vec_items}
 use Rattle.device.specs.Blocks.{whole}
 use Rattle.device.specs.Known.{Known}
