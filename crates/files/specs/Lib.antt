@@ -1,2 +1,3 @@
 pub mod Clearing
+pub mod Life
 pub mod System

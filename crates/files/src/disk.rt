@@ -2,13 +2,20 @@
 //
 // The first read, write or sync that fails is the disk's death. It is never asked again: after a failed
 // sync the system may forget what it could not write, and report success at the next.
-ghost use Rattle.std.specs.Prelude.{◌≡◌, ◌+◌, ◌-◌, ◌*◌, ◌/◌, ◌≤◌, min, true, false, length, Some, None};
-ghost use Rattle.files.specs.Clearing.{ClearedFrom, EmptyFrom};
+ghost use Rattle.std.specs.Prelude.{◌≡◌, ◌+◌, ◌-◌, ◌*◌, ◌/◌, min, true, false, is_ok, length, Some, None, IfErr, IsErr, IsOk, MatchResult};
+ghost use Rattle.files.specs.Clearing.{EmptyFrom};
+ghost use Rattle.files.specs.Life.{fault_of, lives};
+ghost use Rattle.files.specs.declared.disk.Deed.TheVariants.{Read};
+ghost use Rattle.files.specs.declared.disk.Life.TheVariants.{Alive, Failed, GivenUp};
 ghost use Rattle.model.specs.Numbers.{first_page, most_pages, page_size};
 
 use crate::descriptor::Descriptor;
+use crate::errors::FileError;
 use crate::span::{at_most, on_disk, place};
-use device::Device;
+use device::{Dead, Device};
+use layout::places::Extent;
+use octets::Block;
+use std::fmt;
 
 // What a disk was asked when it died.
 #[derive(Clone, Copy, PartialEq, Eq, Debug)]
@@ -18,164 +25,188 @@ pub enum Deed {
     Sync,
 }
 
+impl fmt::Display for Deed {
+    fn fmt<W: fmt::Write>(&self, f: &mut fmt::Formatter<W>) -> fmt::Result {
+        f.pad(match self {
+            Deed::Read => "reading",
+            Deed::Write => "writing",
+            Deed::Sync => "syncing",
+        })
+    }
+}
+
 // Why a disk died.
-#[derive(Clone, Copy)]
+#[derive(Clone, Copy, Debug)]
 pub struct Fault {
     pub deed: Deed,
     pub block: u64,
-    // The system's number, 0 where fewer bytes were moved than asked for.
-    pub error: i32,
+    pub error: FileError,
+}
+
+impl fmt::Display for Fault {
+    fn fmt<W: fmt::Write>(&self, f: &mut fmt::Formatter<W>) -> fmt::Result {
+        let deed = self.deed;
+        let block = self.block;
+        let error = self.error;
+        write!(f, "{deed} block {block}: {error}")
+    }
+}
+
+// Whether a disk lives.
+#[derive(Clone, Copy)]
+enum Life {
+    // Nothing that it was asked failed.
+    Alive,
+    // Dead from the start, or given up.
+    GivenUp,
+    // It died of this while it was used.
+    Failed(Fault),
 }
 
 #[derive(Drop)]
 pub struct FileDisk {
     file: Descriptor,
-    // How many blocks it has.
-    blocks: u64,
-    alive: bool,
-    fault: Option<Fault>,
-    ghost bounded: { blocks ≤ most_pages + first_page },
-}
-
-// Makes the bytes from a place on empty; those before it stay.
-fn clear_from(out: &mut [u8], at: usize)
-    ensures { ClearedFrom at out.old out.new }
-{
-    for i in at..out.len() {
-        out[i] = 0;
-    }
+    extent: Extent,
+    life: Life,
 }
 
 impl FileDisk {
     // A disk of so many blocks in a file that has them. No disk has more than the layout allows.
     pub fn new(file: Descriptor, blocks: u64) -> FileDisk
-        ensures blocks { result.blocks ≡ min blocks (most_pages + first_page) }
-        ensures alive { result.alive ≡ true }
-        ensures fault { result.fault ≡ None }
+        ensures blocks { result.extent.blocks ≡ min blocks (most_pages + first_page) }
+        ensures life { result.life ≡ Alive }
     {
         FileDisk {
             file,
-            blocks: at_most(blocks),
-            alive: true,
-            fault: None,
+            extent: at_most(blocks),
+            life: Life::Alive,
         }
     }
 
     // A disk that is dead from the start.
     pub fn dead() -> FileDisk
-        ensures { (result.alive ≡ false) × ((result.blocks ≡ 0) × (result.fault ≡ None)) }
+        ensures { (result.life ≡ GivenUp) × (result.extent.blocks ≡ 0) }
     {
         FileDisk {
             file: Descriptor::none(),
-            blocks: 0,
-            alive: false,
-            fault: None,
+            extent: at_most(0),
+            life: Life::GivenUp,
         }
     }
 
     // Why it died, if it did while it was used.
     pub fn fault(&self) -> Option<Fault>
-        ensures { result ≡ self.now.fault }
+        ensures { result ≡ fault_of self.now.life }
     {
-        self.fault
+        match self.life {
+            Life::Failed(fault) => Some(fault),
+            Life::Alive | Life::GivenUp => None,
+        }
     }
 
     // Dies now, or stays dead.
     pub fn kill(&mut self)
-        ensures alive { self.new.alive ≡ false }
-        ensures blocks { self.new.blocks ≡ self.old.blocks }
-        ensures fault { self.new.fault ≡ self.old.fault }
+        ensures alive { lives self.new.life ≡ false }
+        ensures extent { self.new.extent ≡ self.old.extent }
+        ensures fault { fault_of self.new.life ≡ fault_of self.old.life }
     {
-        self.alive = false;
+        if self.is_alive() {
+            self.life = Life::GivenUp;
+        }
     }
 
-    // Dies of a fault.
-    fn dies(&mut self, deed: Deed, block: u64, error: i32) -> bool
-        ensures answer { result ≡ false }
-        ensures alive { self.new.alive ≡ false }
-        ensures fault { self.new.fault ≡ Some (record { deed = deed; block = block; error = error }) }
-        ensures blocks { self.new.blocks ≡ self.old.blocks }
+    // Dies of a fault, if there was one. No closure in a `map_err`: of one that changes the disk a proof does
+    // not learn what stays.
+    fn settle(&mut self, told: Result<(), Fault>) -> Result<(), Dead>
+        ensures life { MatchResult told
+            (λ _. (result ≡ Ok tt) × (self.new.life ≡ self.old.life))
+            (λ fault. (IsErr result) × (self.new.life ≡ Failed fault)) }
+        ensures extent { self.new.extent ≡ self.old.extent }
     {
-        self.alive = false;
-        self.fault = Some(Fault { deed, block, error });
-        false
+        let Err(fault) = told else {
+            return Ok(());
+        };
+        self.life = Life::Failed(fault);
+        Err(Dead)
     }
 
     // Fills what is lent with the blocks from a number on; nothing past the disk's end.
-    fn fetch(&mut self, from: u64, out: &mut [u8]) -> bool
-        requires { self.old.alive ≡ true }
-        ensures alive { self.new.alive ≡ result }
-        ensures blocks { self.new.blocks ≡ self.old.blocks }
+    fn fetch(&self, from: u64, out: &mut [u8]) -> Result<(), Fault>
+        ensures { IfErr result (λ fault. (fault.deed ≡ Read) × (fault.block ≡ from)) }
     {
-        let Some(at) = place(self.blocks, from) else {
-            return true;
+        let Some(at) = place(self.extent, from) else {
+            return Ok(());
         };
-        match self.file.read_at(out, at) {
-            Ok(()) => true,
-            Err(error) => self.dies(Deed::Read, from, error),
-        }
+        self.file.read_at(out, at).map_err(|error| Fault {
+            deed: Deed::Read,
+            block: from,
+            error,
+        })
     }
 
     // Writes a block, to last; nothing past the disk's end.
-    fn store(&mut self, block: u64, bytes: &[u8; 1024]) -> bool
-        requires { self.old.alive ≡ true }
-        ensures alive { self.new.alive ≡ result }
-        ensures blocks { self.new.blocks ≡ self.old.blocks }
+    fn store(&self, block: u64, bytes: &Block) -> Result<(), Fault>
+        ensures { IfErr result (λ fault. fault.block ≡ block) }
     {
-        let Some(at) = place(self.blocks, block) else {
-            return true;
+        let Some(at) = place(self.extent, block) else {
+            return Ok(());
         };
-        if let Err(error) = self.file.write_at(bytes, at) {
-            return self.dies(Deed::Write, block, error);
-        }
-        match self.file.sync_data() {
-            Ok(()) => true,
-            Err(error) => self.dies(Deed::Sync, block, error),
-        }
+        self.file.write_at(bytes, at).map_err(|error| Fault {
+            deed: Deed::Write,
+            block,
+            error,
+        })?;
+        self.file.sync_data().map_err(|error| Fault {
+            deed: Deed::Sync,
+            block,
+            error,
+        })
     }
 
-    // Reads as many whole blocks as fit, from a block on. Past the disk's end blocks are empty. False: the
-    // disk is dead, or died of this.
-    pub fn read_blocks(&mut self, from: u64, out: &mut [u8]) -> bool
-        ensures past { result ≡ true → EmptyFrom (page_size * min (self.old.blocks - from) (length out.old / page_size)) out.new }
-        ensures alive { self.new.alive ≡ result }
-        ensures lived { result ≡ true → self.old.alive ≡ true }
-        ensures blocks { self.new.blocks ≡ self.old.blocks }
+    // Reads as many whole blocks as fit, from a block on. Past the disk's end blocks are empty.
+    pub fn read_blocks(&mut self, from: u64, out: &mut [u8]) -> Result<(), Dead>
+        ensures past { IsOk result → EmptyFrom (page_size * min (self.old.extent.blocks - from) (length out.old / page_size)) out.new }
+        ensures alive { lives self.new.life ≡ is_ok result }
+        ensures lived { IsOk result → self.old.life ≡ Alive }
+        ensures extent { self.new.extent ≡ self.old.extent }
     {
-        if !self.alive {
-            return false;
+        if !self.is_alive() {
+            return Err(Dead);
         }
-        let n = on_disk(self.blocks, from, out.len());
-        clear_from(out, n);
-        self.fetch(from, &mut out[0..n])
+        let (stored, past) = out.split_at_mut(on_disk(self.extent, from, out.len()));
+        past.fill(0);
+        let got = self.fetch(from, stored);
+        self.settle(got)
     }
 
-    // Writes a block, to last. Past the disk's end nothing is written. False: the disk is dead, or died of
-    // this.
-    pub fn write_block(&mut self, block: u64, bytes: &[u8; 1024]) -> bool
-        ensures alive { self.new.alive ≡ result }
-        ensures lived { result ≡ true → self.old.alive ≡ true }
-        ensures blocks { self.new.blocks ≡ self.old.blocks }
+    // Writes a block, to last. Past the disk's end nothing is written.
+    pub fn write_block(&mut self, block: u64, bytes: &Block) -> Result<(), Dead>
+        ensures alive { lives self.new.life ≡ is_ok result }
+        ensures lived { IsOk result → self.old.life ≡ Alive }
+        ensures extent { self.new.extent ≡ self.old.extent }
     {
-        if !self.alive {
-            return false;
+        if !self.is_alive() {
+            return Err(Dead);
         }
-        self.store(block, bytes)
+        let put = self.store(block, bytes);
+        self.settle(put)
     }
 }
 
 impl Device for FileDisk {
     ghost known = { λ _. None };
 
-    fn read(&mut self, from: u64, out: &mut [u8]) -> bool {
+    fn read(&mut self, from: u64, out: &mut [u8]) -> Result<(), Dead> {
         self.read_blocks(from, out)
     }
 
-    fn write(&mut self, block: u64, bytes: &[u8; 1024]) -> bool {
+    fn write(&mut self, block: u64, bytes: &Block) -> Result<(), Dead> {
         self.write_block(block, bytes)
     }
 
-    fn is_alive(&self) -> bool {
-        self.alive
+    fn is_alive(&self) -> bool
+        ensures { result ≡ lives self.now.life }
+    {
+        matches!(self.life, Life::Alive)
     }
 }

@@ -1,27 +1,55 @@
-// The numbers by which the system tells why a call failed.
+// Why a call on a file failed.
 ghost use Rattle.std.specs.Prelude.{◌≡◌};
-ghost use Rattle.files.specs.System.{error_number};
+ghost use Rattle.files.specs.declared.errors.FileError.TheVariants.{NoMemory, System};
 
-use std::io;
+use std::alloc::AllocError;
+use std::error::Error;
+use std::{fmt, io};
 
-// No file has the name.
-pub const ENOENT: i32 = 2;
+#[derive(Clone, Copy, Debug)]
+pub enum FileError {
+    // The system told this error.
+    System(io::Error),
+    // Fewer bytes were moved than asked for, and no error was told.
+    Short,
+    // There is no open file.
+    NoFile,
+    // There is not enough memory to ask the system.
+    NoMemory,
+}
 
-// The descriptor is none.
-pub const EBADF: i32 = 9;
+// The numbers by which the system tells of no open file and of no memory.
+const EBADF: i32 = 9;
 
-// There is not enough memory.
-pub const ENOMEM: i32 = 12;
+const ENOMEM: i32 = 12;
 
-// A file has the name already.
-pub const EEXIST: i32 = 17;
+// What the system was not asked for is told in its words all the same.
+impl fmt::Display for FileError {
+    fn fmt<W: fmt::Write>(&self, f: &mut fmt::Formatter<W>) -> fmt::Result {
+        let error = match self {
+            FileError::System(error) => *error,
+            FileError::Short => return f.pad("fewer bytes than asked for"),
+            FileError::NoFile => io::Error::from_raw_os_error(EBADF),
+            FileError::NoMemory => io::Error::from_raw_os_error(ENOMEM),
+        };
+        write!(f, "{error}")
+    }
+}
 
-// What was given can't be asked for.
-pub const EINVAL: i32 = 22;
+impl Error for FileError {}
 
-// The number of an error, 0 where it has none.
-pub fn error_number(error: io::Error) -> i32
-    ensures { result ≡ error_number error }
-{
-    error.raw_os_error().unwrap_or(0)
+impl From<io::Error> for FileError {
+    ghost from_gives = { λ error e. e ≡ System error };
+
+    fn from(error: io::Error) -> FileError {
+        FileError::System(error)
+    }
+}
+
+impl From<AllocError> for FileError {
+    ghost from_gives = { λ _ e. e ≡ NoMemory };
+
+    fn from(_error: AllocError) -> FileError {
+        FileError::NoMemory
+    }
 }

@@ -1,6 +1,6 @@
 -- The first 1,030 bytes of a call decide: a longer write has more than a page, with them or without the rest,
 -- and every other call ceases to be one within its first six bytes.
-use Rattle.std.proofs.Common.{◌≡◌, ℕ, zero, suc, ◌<◌, ◌≤◌, Bool, true, false, eqb, ◌⊎◌, List, [], ◌∷◌, length, take, drop, sym, refl, ap, ◌∙◌, inl, inr, arith}
+use Rattle.std.proofs.Common.{◌≡◌, ℕ, zero, suc, ◌<◌, ◌≤◌, ◌⊎◌, List, [], ◌∷◌, length, take, drop, sym, refl, ap, ◌∙◌, inl, inr, arith}
 use Rattle.std.proofs.lemmas.List.{take_all, length-drop, length-take-le}
 use Rattle.std.proofs.lemmas.Bool.{cases_lt}
 use Rattle.std.proofs.lemmas.Bool.Decides.{nat_tests}
@@ -8,20 +8,8 @@ use Rattle.model.specs.Book as book
 use Rattle.model.specs.Book.{Limits, Book, answer, after}
 use Rattle.octets.specs.Words.{num4}
 use Rattle.wire.specs.Calls.{call_of}
-use Rattle.wire.proofs.Calls.{write_is}
+use Rattle.wire.proofs.Calls.{write_is, long_read_is, long_close_is, long_size_is, unknown_is}
 use Rattle.frames.specs.Kept.{Decide}
-
-long_read : (r : List ℕ) → 4 < length r → call_of (0 ∷ r) ≡ book.garbled 5
-long_read r h = grind (arith, nat_tests)
-
-long_close : (r : List ℕ) → 0 < length r → call_of (2 ∷ r) ≡ book.garbled 1
-long_close r h = grind (arith, nat_tests)
-
-long_size : (r : List ℕ) → 0 < length r → call_of (3 ∷ r) ≡ book.garbled 1
-long_size r h = grind (arith, nat_tests)
-
-unknown : (x : ℕ) (r : List ℕ) → 3 < x → call_of (x ∷ r) ≡ book.garbled 0
-unknown x r h = grind (arith, nat_tests)
 
 -- a write that hasn't a page's bytes is refused by 2, and changes nothing
 abbrev Unfit : Limits → Book → book.Call → Type 0
@@ -29,14 +17,7 @@ Unfit l b c = (answer l b c ≡ book.refused 2 0) × (after l b c ≡ b)
 
 unfit_write : (l : Limits) (b : Book) (a : ℕ) (p : List ℕ) → (length p ≡ 1024 → ⊥) → Unfit l b (book.write a p)
 unfolding book.call_number book.good_fields book.turned_by book.place
-unfit_write l b a p h = go (l.calls_can 1) refl
-  where
-    e : eqb (length p) 1024 ≡ false
-    e = grind (arith, nat_tests)
-
-    go : (t : Bool) → l.calls_can 1 ≡ t → Unfit l b (book.write a p)
-    go true q = (simp (q, e), simp (q, e))
-    go false q = (simp (q, e), simp (q, e))
+unfit_write l b a p h = grind (arith, nat_tests)
 
 unfit : (l : Limits) (b : Book) (r : List ℕ) → 4 ≤ length r → (length r ≡ 1028 → ⊥) → Unfit l b (call_of (1 ∷ r))
 unfit l b r h n =
@@ -58,11 +39,11 @@ longer l b (x ∷ r) h = go x
     e = length-take-le 1029 r (omega arith)
 
     go : (x : ℕ) → (answer l b (call_of (x ∷ take 1029 r)) ≡ answer l b (call_of (x ∷ r))) × (after l b (call_of (x ∷ take 1029 r)) ≡ after l b (call_of (x ∷ r)))
-    go zero = same l b _ _ (book.garbled 5) (long_read (take 1029 r) (omega (arith, e))) (long_read r (omega arith))
+    go zero = same l b _ _ (book.garbled 5) (long_read_is (take 1029 r) (omega (arith, e))) (long_read_is r (omega arith))
     go (suc zero) = alike l b _ _ (unfit l b (take 1029 r) (omega (arith, e)) (λ q. absurd (omega (arith, e)))) (unfit l b r (omega arith) (λ q. absurd (omega arith)))
-    go (suc (suc zero)) = same l b _ _ (book.garbled 1) (long_close (take 1029 r) (omega (arith, e))) (long_close r (omega arith))
-    go (suc (suc (suc zero))) = same l b _ _ (book.garbled 1) (long_size (take 1029 r) (omega (arith, e))) (long_size r (omega arith))
-    go (suc (suc (suc (suc y)))) = same l b _ _ (book.garbled 0) (unknown (suc (suc (suc (suc y)))) (take 1029 r) (omega (arith, e))) (unknown (suc (suc (suc (suc y)))) r (omega arith))
+    go (suc (suc zero)) = same l b _ _ (book.garbled 1) (long_close_is (take 1029 r) (omega (arith, e))) (long_close_is r (omega arith))
+    go (suc (suc (suc zero))) = same l b _ _ (book.garbled 1) (long_size_is (take 1029 r) (omega (arith, e))) (long_size_is r (omega arith))
+    go (suc (suc (suc (suc y)))) = same l b _ _ (book.garbled 0) (unknown_is (suc (suc (suc (suc y)))) (take 1029 r) (omega (arith, e))) (unknown_is (suc (suc (suc (suc y)))) r (omega arith))
 
 pub first_bytes_decide : Decide 1030
 first_bytes_decide l b bs = go (cases_lt 1030 (length bs))

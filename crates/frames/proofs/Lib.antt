@@ -1,2 +1,2 @@
 mod Kept
-mod Framed
+mod Streams

@@ -1,9 +1,13 @@
 -- Disks that were given up. Definitions only.
-use Rattle.std.specs.Prelude.{◌≡◌, Bool, true, false}
+use Rattle.std.specs.Prelude.{◌≡◌, true, false}
 use Rattle.device.specs.declared.mirror.Mirror.{Mirror}
-use Rattle.files.specs.declared.disk.FileDisk.{FileDisk}
+use Rattle.files.specs.Life.{lives}
+use Rattle.guard.specs.declared.pair.Named.{Named}
 
--- both are dead and known to be, so that nothing more is written or answered
-abbrev pub GivenUp : Mirror FileDisk → Bool → Bool → Type 0
-GivenUp both first_gone second_gone =
-    (both.first.alive ≡ false) × (both.second.alive ≡ false) × (first_gone ≡ true) × (second_gone ≡ true)
+-- a disk is dead and known to be
+abbrev pub IsGone : Named → Type 0
+IsGone d = (lives d.disk.life ≡ false) × (d.gone ≡ true)
+
+-- both are, so that nothing more is written or answered
+abbrev pub GivenUp : Mirror Named → Type 0
+GivenUp both = IsGone both.first × IsGone both.second

@@ -1,8 +1,5 @@
 -- What a block of a disk is. Definitions only.
-use Rattle.std.specs.Prelude.{◌≡◌, ℕ, ◌+◌, ◌<◌, ◌≤◌, codes}
-use mathlib.Core.List as lists
-use Rattle.device.specs.declared.mirror.Side.{Side}
-use Rattle.device.specs.declared.mirror.Side.TheVariants.{First, Second}
+use Rattle.std.specs.Prelude.{◌≡◌, ℕ, ◌+◌, ◌<◌, ◌≤◌}
 use Rattle.model.specs.Numbers.{room, first_page, most_pages}
 use Rattle.guard.specs.declared.part.Part.{Part}
 use Rattle.guard.specs.declared.part.Part.TheVariants.{Header, List, Entry, Page, Nothing}
@@ -14,8 +11,3 @@ Stands block List = block ≡ 1
 Stands block (Entry i) = (block ≡ 2 + i) × (i < room)
 Stands block (Page p) = (block ≡ first_page + p) × (p < most_pages)
 Stands block Nothing = most_pages + first_page ≤ block
-
--- a disk of the two, in words
-abbrev pub side_name : Side → lists.List ℕ
-side_name First = codes "first"
-side_name Second = codes "second"

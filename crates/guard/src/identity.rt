@@ -1,9 +1,9 @@
 // Which file a name or a descriptor leads to, whatever it is called: its device and its number there.
-ghost use Rattle.std.specs.Prelude.{◌≡◌, ◌==◌, bit_and};
-
 use files::descriptor::Descriptor;
-use files::errors::{EINVAL, error_number};
+use files::errors::FileError;
 use std::fs::{Metadata, metadata};
+use std::io;
+use std::io::ErrorKind;
 use std::os::unix::fs::MetadataExt;
 use std::str::from_utf8;
 
@@ -22,40 +22,29 @@ pub struct Known {
     pub is_plain: bool,
 }
 
-// The bits of a file's mode that say what it is, and what they are of a plain file.
-const S_IFMT: u32 = 61440;
-
-const S_IFREG: u32 = 32768;
-
-// Whether a file's mode says that it is a plain one.
-fn is_regular(mode: u32) -> bool
-    ensures { result ≡ (bit_and mode 61440 == 32768) }
-{
-    mode & S_IFMT == S_IFREG
-}
-
 // What the system tells. No contract can say what that is.
-fn told(found: &Metadata) -> Known {
-    Known {
-        identity: Identity {
-            device: found.dev(),
-            inode: found.ino(),
-        },
-        size: found.len(),
-        is_plain: is_regular(found.mode()),
+impl From<Metadata> for Known {
+    fn from(found: Metadata) -> Known {
+        Known {
+            identity: Identity {
+                device: found.dev(),
+                inode: found.ino(),
+            },
+            size: found.len(),
+            is_plain: found.is_file(),
+        }
     }
 }
 
 // What is known of an open file.
-pub fn of_open(file: &Descriptor) -> Result<Known, i32> {
-    Ok(told(&file.metadata()?))
+pub fn of_open(file: &Descriptor) -> Result<Known, FileError> {
+    Ok(file.metadata()?.into())
 }
 
 // What is known of the file that a name leads to, through links. A name that is no text can't be asked for.
-pub fn of_name(rt: &HostRuntime, path: &[u8]) -> Result<Known, i32> {
+pub fn of_name(rt: &HostRuntime, path: &[u8]) -> Result<Known, FileError> {
     let Ok(path) = from_utf8(path) else {
-        return Err(EINVAL);
+        return Err(io::Error::from(ErrorKind::InvalidInput).into());
     };
-    let found = metadata(rt, path).map_err(error_number)?;
-    Ok(told(&found))
+    Ok(metadata(rt, path)?.into())
 }

@@ -6,16 +6,32 @@
 use crate::identity::of_name;
 use crate::names::sync_folder;
 use files::descriptor::Descriptor;
-use files::errors::{EEXIST, ENOENT, ENOMEM};
+use files::errors::FileError;
 use std::alloc::AllocError;
+use std::fmt;
 use std::fs::File;
-use std::io::Read;
+use std::io::{Error, ErrorKind, Read};
 use std::str::from_utf8;
 
-#[derive(Clone, Copy)]
+#[derive(Clone, Copy, PartialEq, Eq, Debug)]
 pub enum Mark {
     Dead,
     Alone,
+}
+
+impl Mark {
+    // Each of the two.
+    pub const BOTH: [Mark; 2] = [Mark::Dead, Mark::Alone];
+}
+
+// As a mark's name ends.
+impl fmt::Display for Mark {
+    fn fmt<W: fmt::Write>(&self, f: &mut fmt::Formatter<W>) -> fmt::Result {
+        f.pad(match self {
+            Mark::Dead => "dead",
+            Mark::Alone => "alone",
+        })
+    }
 }
 
 // The most bytes of a mark that are read.
@@ -23,116 +39,78 @@ const MOST: usize = 200;
 
 // The name of a disk's mark.
 pub fn mark_name(rt: &HostRuntime, disk: &str, mark: Mark) -> Result<String, AllocError> {
-    match mark {
-        Mark::Dead => format!(in rt.alloc(); "{disk}.dead"),
-        Mark::Alone => format!(in rt.alloc(); "{disk}.alone"),
-    }
+    format!(in rt.alloc(); "{disk}.{mark}")
 }
 
-// Whether a character of a mark may be shown: no control character.
+// Whether a mark's text may be shown: it has no control character.
 fn is_shown(text: &str) -> bool {
-    for byte in text.as_bytes() {
-        if *byte < 32 || *byte == 127 {
-            return false;
-        }
-    }
-    true
+    text.bytes().all(|byte| !byte.is_ascii_control())
 }
 
 // The first line of a mark, if it can be shown.
 fn first_line(bytes: &[u8]) -> Option<&str> {
-    let Ok(text) = from_utf8(bytes) else {
-        return None;
-    };
-    let Some(line) = text.lines().next() else {
-        return None;
-    };
-    if is_shown(line) { Some(line) } else { None }
+    let line = from_utf8(bytes).ok()?.lines().next();
+    line.filter(|line| is_shown(line))
 }
 
 // What a mark says, shortened, or that it says nothing that can be shown.
 fn text_of(rt: &HostRuntime, name: &str) -> Result<String, AllocError> {
     let mut bytes = [0; MOST];
-    let mut n = 0;
-    if let Ok(mut file) = File::open(rt, name) {
-        n = file.read(&mut bytes).unwrap_or(0);
-    }
+    let read = File::open(rt, name).and_then(|mut file| file.read(&mut bytes));
+    let n = read.unwrap_or(0);
     let said = first_line(&bytes[0..n]).unwrap_or("since an unknown moment");
     String::from_str(rt.alloc(), said)
 }
 
-// Whether a mark stands beside a disk, and what it says.
-#[derive(Drop)]
-pub enum Found {
-    No,
-    Yes(String),
-    // It can't be told; the system's number for why.
-    Unknown(i32),
-}
-
-// Looks for a mark beside a disk.
-pub fn find(rt: &HostRuntime, disk: &str, mark: Mark) -> Found {
-    let Ok(name) = mark_name(rt, disk, mark) else {
-        return Found::Unknown(ENOMEM);
-    };
+// What a mark beside a disk says, if one is there. An error: that can't be told.
+pub fn find(rt: &HostRuntime, disk: &str, mark: Mark) -> Result<Option<String>, FileError> {
+    let name = mark_name(rt, disk, mark)?;
     match of_name(rt, name.as_bytes()) {
-        Ok(_) => match text_of(rt, name.as_str()) {
-            Ok(text) => Found::Yes(text),
-            Err(_) => Found::Unknown(ENOMEM),
-        },
-        Err(error) => {
-            if error == ENOENT {
-                return Found::No;
-            }
-            Found::Unknown(error)
-        }
+        Ok(_) => Ok(Some(text_of(rt, name.as_str())?)),
+        Err(FileError::System(error)) if error.kind() == ErrorKind::NotFound => Ok(None),
+        Err(error) => Err(error),
     }
 }
 
 // Opens a mark that is there, or makes it.
-fn have(rt: &HostRuntime, name: &str, text: &str) -> Result<Descriptor, i32> {
+fn have(rt: &HostRuntime, name: &str, text: &str) -> Result<Descriptor, FileError> {
     match Descriptor::create(rt, name) {
         Ok(file) => {
             // The mark counts even where its text finds no room.
             let _ = file.write_at(text.as_bytes(), 0);
             Ok(file)
         }
-        Err(error) => {
-            if error == EEXIST {
-                return Descriptor::open_to_read(rt, name);
-            }
-            Err(error)
+        Err(FileError::System(error)) if error.kind() == ErrorKind::AlreadyExists => {
+            Descriptor::open_to_read(rt, name)
         }
+        Err(error) => Err(error),
     }
 }
 
 // Sets a mark beside a disk, to last. One that is there stays as it is, and is made to last too.
-pub fn set(rt: &HostRuntime, disk: &str, mark: Mark, text: &str) -> Result<(), i32> {
-    let Ok(name) = mark_name(rt, disk, mark) else {
-        return Err(ENOMEM);
-    };
-    let Ok(line) = format!(in rt.alloc(); "{text}\n") else {
-        return Err(ENOMEM);
-    };
-    let file = have(rt, name.as_str(), line.as_str())?;
-    file.sync()?;
+pub fn set(rt: &HostRuntime, disk: &str, mark: Mark, text: &str) -> Result<(), FileError> {
+    let name = mark_name(rt, disk, mark)?;
+    let line = format!(in rt.alloc(); "{text}\n")?;
+    have(rt, name.as_str(), line.as_str())?.sync()?;
     sync_folder(rt, name.as_str())
 }
+
+// The number by which the system tells that no file has a name. No kind of an error stands here: the text that is
+// printed is the system's own, which it has for its numbers alone.
+const ENOENT: i32 = 2;
 
 // Notes a death, to last: beside the disk that goes on, and beside the dead one where that can be done. An
 // error: it could not be noted beside the one that goes on.
 pub fn note_death(
     rt: &HostRuntime,
-    living: &Option<String>,
-    dead: &Option<String>,
+    living: Option<&str>,
+    dead: Option<&str>,
     text: &str,
-) -> Result<(), i32> {
-    let Some(living) = living else {
-        return Err(ENOENT);
-    };
-    set(rt, living.as_str(), Mark::Alone, text)?;
+) -> Result<(), FileError> {
+    let living = living.ok_or(Error::from_raw_os_error(ENOENT))?;
+    set(rt, living, Mark::Alone, text)?;
     if let Some(dead) = dead {
-        let _ = set(rt, dead.as_str(), Mark::Dead, text);
+        let _ = set(rt, dead, Mark::Dead, text);
     }
     Ok(())
 }

@@ -11,12 +11,9 @@ use std::{fs, io};
 // Whether an open file may be written, by what the system tells of its flags: a number in base 8, whose
 // lowest two bits say how it is open, 0 for reading alone.
 fn may_write(told: &str) -> bool {
-    for line in told.lines() {
-        if let Some(flags) = line.strip_prefix("flags:") {
-            return !flags.trim().ends_with('0') && !flags.trim().ends_with('4');
-        }
-    }
-    true
+    told.lines()
+        .find_map(|line| line.strip_prefix("flags:"))
+        .is_none_or(|flags| !flags.trim().ends_with(['0', '4']))
 }
 
 // Whether a process has one of the files open to be written under this number.
@@ -30,16 +27,12 @@ fn writes_one(
     let Ok(known) = of_name(rt, name.as_bytes()) else {
         return Ok(false);
     };
-    for file in files {
-        if *file == known.identity {
-            let about = format!(in rt.alloc(); "/proc/{process}/fdinfo/{number}")?;
-            let Ok(told) = fs::read_to_string(rt, about.as_str()) else {
-                return Ok(true);
-            };
-            return Ok(may_write(told.as_str()));
-        }
+    if !files.contains(&known.identity) {
+        return Ok(false);
     }
-    Ok(false)
+    let about = format!(in rt.alloc(); "/proc/{process}/fdinfo/{number}")?;
+    let told = fs::read_to_string(rt, about.as_str());
+    Ok(told.map_or(true, |told| may_write(told.as_str())))
 }
 
 // Whether a process has one of the files open to be written. One that may not be looked at, or is gone by

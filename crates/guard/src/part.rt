@@ -1,10 +1,10 @@
 // What a block of a disk is, and what is put there, in words.
-ghost use Rattle.std.specs.Prelude.{◌≡◌};
-ghost use Rattle.guard.specs.Parts.{Stands, side_name};
+ghost use Rattle.guard.specs.Parts.{Stands};
 
 use device::mirror::Side;
-use layout::header::{count_of, flag_of};
+use layout::header::Header;
 use layout::places::Layout;
+use octets::Block;
 use std::fmt;
 
 #[derive(Clone, Copy, PartialEq, Eq, Debug)]
@@ -45,27 +45,20 @@ pub fn part_of(block: u64) -> Part
 pub struct Put<'a> {
     pub side: Side,
     pub block: u64,
-    pub bytes: &'a [u8; 1024],
-}
-
-// Which disk, in words.
-pub fn side_name(side: Side) -> &'static str
-    ensures { result.now ≡ side_name side }
-{
-    match side {
-        Side::First => "first",
-        Side::Second => "second",
-    }
+    pub bytes: &'a Block,
 }
 
 // What a block's bytes are, in words.
 fn show_content<W: fmt::Write>(
     f: &mut fmt::Formatter<W>,
     part: Part,
-    bytes: &[u8; 1024],
+    bytes: &Block,
 ) -> fmt::Result {
     match part {
-        Part::Header => show_header(f, flag_of(bytes) == 1, count_of(bytes)),
+        Part::Header => {
+            let header = Header::from(bytes);
+            write!(f, "{header}")
+        }
         Part::List => f.write_str("list"),
         Part::Entry(i) => write!(f, "log entry {i}"),
         Part::Page(page) => write!(f, "page {page}"),
@@ -73,19 +66,9 @@ fn show_content<W: fmt::Write>(
     }
 }
 
-fn show_header<W: fmt::Write>(f: &mut fmt::Formatter<W>, holds: bool, count: u32) -> fmt::Result {
-    if holds {
-        return write!(f, "header: {count} logged, holding");
-    }
-    if count == 0 {
-        return f.write_str("header: empty");
-    }
-    write!(f, "header: {count} logged")
-}
-
 impl fmt::Display for Put<'_> {
     fn fmt<W: fmt::Write>(&self, f: &mut fmt::Formatter<W>) -> fmt::Result {
-        let side = side_name(self.side);
+        let side = self.side;
         let block = self.block;
         let bytes = self.bytes;
         write!(f, "{side:<6}  block {block}  ")?;

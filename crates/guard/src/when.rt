@@ -10,15 +10,15 @@ pub struct Moment {
 
 // The moment it is.
 pub fn now(rt: &HostRuntime) -> Moment {
-    let Ok(time) = SystemTime::now(rt) else {
-        return Moment { seconds: None };
-    };
-    match time.duration_since(SystemTime::UNIX_EPOCH) {
-        Ok(span) => Moment {
-            seconds: Some(span.as_secs()),
-        },
-        Err(_) => Moment { seconds: None },
+    Moment {
+        seconds: seconds_now(rt),
     }
+}
+
+fn seconds_now(rt: &HostRuntime) -> Option<u64> {
+    let time = SystemTime::now(rt).ok()?;
+    let span = time.duration_since(SystemTime::UNIX_EPOCH).ok()?;
+    Some(span.as_secs())
 }
 
 // No clock shows a later day.

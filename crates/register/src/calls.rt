@@ -1,57 +1,47 @@
 // Calls of a register that was started, each by its bytes.
-ghost use Rattle.std.specs.Prelude.{◌≤◌};
+ghost use Rattle.std.specs.Prelude.{◌≡◌, ◌≤◌, length};
+ghost use Rattle.wire.specs.Calls.{meant, call_bytes as bytes_of};
 
-use crate::start::{Register, both_dead};
+use crate::start::Register;
 use crate::stop::{Stop, refuse};
+use device::Dead;
 use engine::call::{Reply, answer};
 use guard::inspect::read_front;
-use wire::answer::Refusal;
+use octets::{Block, EMPTY};
 use wire::call;
 use wire::call::Call;
 
-// Makes a call by its bytes. A page that is read is put into `page`.
-pub fn call_bytes(
+// Bytes in the longest call, which is a write.
+const LONGEST: usize = 1029;
+
+// Makes a call by its bytes, unless both disks are dead. A page that is read is put into `page`.
+pub fn call_bytes(register: &mut Register, bytes: &[u8], page: &mut Block) -> Result<Reply, Dead> {
+    answer(&mut register.disks, register.pages, bytes, page)
+}
+
+// Puts a call's bytes at the front of what is lent, and lends that front.
+fn encoded<'a>(call: Call<'_>, bytes: &'a mut [u8; LONGEST]) -> &'a [u8]
+    ensures len { length result.now ≤ LONGEST }
+    ensures value { length (bytes_of (meant call.entry)) ≤ LONGEST → result.now ≡ bytes_of (meant call.entry) }
+{
+    let n = call::encode(call, bytes).unwrap_or(0);
+    &bytes[..n]
+}
+
+// Makes a call that has this answer, or is refused.
+fn ask(
     rt: &HostRuntime,
     register: &mut Register,
-    bytes: &[u8],
-    page: &mut [u8; 1024],
-) -> Result<Reply, Stop> {
-    match answer(&mut register.disks, register.pages, bytes, page) {
-        Some(reply) => Ok(reply),
-        None => Err(both_dead(rt)),
+    call: Call<'_>,
+    wanted: Reply,
+    page: &mut Block,
+) -> Result<(), Stop> {
+    let mut bytes = [0; LONGEST];
+    match call_bytes(register, encoded(call, &mut bytes), page)? {
+        Reply::Refused(refusal) => Err(refuse(rt, refusal)),
+        reply if reply == wanted => Ok(()),
+        _ => Err(refuse(rt, "the register gave an answer to another call")),
     }
-}
-
-// Why a call was refused, in words.
-fn refused(rt: &HostRuntime, refusal: Refusal) -> Stop {
-    match refusal {
-        Refusal::NotACall { place } => refuse(
-            rt,
-            format_args!("this is no call from byte {place} on"),
-        ),
-        Refusal::Unfit => refuse(rt, "a page has 1024 bytes"),
-        Refusal::NoSuchPage => refuse(rt, "there is no such page"),
-        Refusal::LogFull => refuse(rt, "256 writes wait already"),
-    }
-}
-
-// A call as bytes, and how many they are.
-fn encoded(call: Call<'_>, bytes: &mut [u8; 1029]) -> usize
-    ensures { result ≤ 1029 }
-{
-    call::encode(call, bytes).unwrap_or(0)
-}
-
-fn read_call<'a>(page: u32) -> Call<'a> {
-    Call::Read { page }
-}
-
-fn close_call<'a>() -> Call<'a> {
-    Call::Close
-}
-
-fn another_answer(rt: &HostRuntime) -> Stop {
-    refuse(rt, "the register gave an answer to another call")
 }
 
 // Reads a page.
@@ -59,52 +49,40 @@ pub fn read_page(
     rt: &HostRuntime,
     register: &mut Register,
     number: u32,
-    page: &mut [u8; 1024],
+    page: &mut Block,
 ) -> Result<(), Stop> {
-    let mut bytes = [0; 1029];
-    let n = encoded(read_call(number), &mut bytes);
-    match call_bytes(rt, register, &bytes[0..n], page)? {
-        Reply::Page => Ok(()),
-        Reply::Refused(refusal) => Err(refused(rt, refusal)),
-        Reply::Done | Reply::Number(_) => Err(another_answer(rt)),
-    }
-}
-
-// Makes a call that is done or refused.
-fn do_call(rt: &HostRuntime, register: &mut Register, bytes: &[u8]) -> Result<(), Stop> {
-    let mut page = [0; 1024];
-    match call_bytes(rt, register, bytes, &mut page)? {
-        Reply::Done => Ok(()),
-        Reply::Refused(refusal) => Err(refused(rt, refusal)),
-        Reply::Page | Reply::Number(_) => Err(another_answer(rt)),
-    }
+    ask(
+        rt,
+        register,
+        Call::Read { page: number },
+        Reply::Page(()),
+        page,
+    )
 }
 
 pub fn write_page(
     rt: &HostRuntime,
     register: &mut Register,
     page: u32,
-    page_bytes: &[u8; 1024],
+    bytes: &Block,
 ) -> Result<(), Stop> {
-    let mut bytes = [0; 1029];
-    let call = Call::Write {
-        page,
-        bytes: page_bytes,
-    };
-    let n = encoded(call, &mut bytes);
-    do_call(rt, register, &bytes[0..n])
+    let mut unread = EMPTY;
+    ask(
+        rt,
+        register,
+        Call::Write { page, bytes },
+        Reply::Done,
+        &mut unread,
+    )
 }
 
 pub fn close(rt: &HostRuntime, register: &mut Register) -> Result<(), Stop> {
-    let mut bytes = [0; 1029];
-    let n = encoded(close_call(), &mut bytes);
-    do_call(rt, register, &bytes[0..n])
+    let mut unread = EMPTY;
+    ask(rt, register, Call::Close, Reply::Done, &mut unread)
 }
 
-// How many writes wait for a close. None: both disks are dead.
-pub fn waiting(register: &mut Register) -> Option<u32> {
-    match read_front(&mut register.disks) {
-        Some(front) => Some(front.log(register.pages).count),
-        None => None,
-    }
+// How many writes wait for a close, unless both disks are dead.
+pub fn waiting(register: &mut Register) -> Result<u32, Dead> {
+    let front = read_front(&mut register.disks)?;
+    Ok(front.log(register.pages).count.writes)
 }

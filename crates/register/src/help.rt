@@ -1,5 +1,5 @@
 // How the program is used.
-use crate::stop::{Stop, refuse};
+use crate::stop::{Stop, unwritten};
 use std::io::Write;
 
 const USAGE: &str = "\
@@ -19,11 +19,7 @@ it is dead. PAGE is a number, from 0 on.
 ";
 
 pub fn show_help(rt: &HostRuntime) -> Result<(), Stop> {
-    match rt.stdout().write_all(USAGE.as_bytes()) {
-        Ok(()) => Ok(()),
-        Err(error) => Err(refuse(
-            rt,
-            format_args!("standard output can't be written: {error}"),
-        )),
-    }
+    rt.stdout()
+        .write_all(USAGE.as_bytes())
+        .map_err(|error| unwritten(rt, error))
 }

@@ -6,6 +6,7 @@ mod change;
 mod check;
 mod help;
 mod make;
+mod mark;
 mod open;
 mod order;
 mod serve;
@@ -14,6 +15,7 @@ mod stop;
 mod streams;
 
 use calls::read_page;
+use octets::EMPTY;
 use open::open_files;
 use order::{Command, Order, Paths};
 use start::Register;
@@ -29,18 +31,16 @@ fn begin(rt: &HostRuntime, disks: &Paths, trace: bool) -> Result<Register, Stop>
 
 // Writes a page's bytes to standard output.
 fn show_page(rt: &HostRuntime, register: &mut Register, number: u32) -> Result<(), Stop> {
-    let mut page = [0; 1024];
+    let mut page = EMPTY;
     read_page(rt, register, number, &mut page)?;
-    match rt.stdout().write_all(&page) {
-        Ok(()) => Ok(()),
-        Err(error) => Err(refuse(rt, format_args!("the page can't be written: {error}"))),
-    }
+    rt.stdout().write_all(&page).map_err(|error| refuse(
+        rt,
+        format_args!("the page can't be written: {error}"),
+    ))
 }
 
 fn run(rt: &HostRuntime) -> Result<(), Stop> {
-    if !streams::hold(rt) {
-        return Err(refuse(rt, "the null device can't be opened"));
-    }
+    streams::hold(rt).map_err(|_error| refuse(rt, "the null device can't be opened"))?;
     let Order { command, trace } = order::read_order(rt)?;
     match command {
         Command::Help => help::show_help(rt),
@@ -52,22 +52,21 @@ fn run(rt: &HostRuntime) -> Result<(), Stop> {
             changes,
             pad,
         } => {
-            let pages = change::read_files(rt, &changes, pad)?;
+            // All that can be refused of the files and their pages is refused before anything is written.
+            let pages = change::read_files(rt, changes.as_slice(), pad)?;
             let files = open_files(rt, &disks)?;
-            change::refuse_outside(rt, &changes, files.pages)?;
-            change::change_pages(rt, &mut start::start(rt, files, trace)?, &pages)
+            change::refuse_outside(rt, changes.as_slice(), files.pages)?;
+            let mut register = start::start(rt, files, trace)?;
+            change::change_pages(rt, &mut register, pages.as_slice())
         }
         Command::Check { disks } => check::tell(rt, &mut begin(rt, &disks, trace)?),
     }
 }
 
 fn main(rt: HostRuntime) -> ExitCode {
-    match run(&rt) {
-        Ok(()) => ExitCode::SUCCESS,
-        Err(Stop::Said) => ExitCode::FAILURE,
-        Err(Stop::NoMemory) => {
-            let _ = eprintln!(rt; "register: there is not enough memory");
-            ExitCode::FAILURE
-        }
-    }
+    let Err(stop) = run(&rt) else {
+        return ExitCode::SUCCESS;
+    };
+    stop.say(&rt);
+    ExitCode::FAILURE
 }

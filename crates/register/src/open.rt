@@ -4,12 +4,13 @@
 // disk is dead is said by `-` in place of its name.
 use crate::order::Paths;
 use crate::stop::{Stop, refuse};
+use device::mirror::Mirror;
 use files::descriptor::Descriptor;
-use guard::identity::{Identity, of_open};
+use guard::identity::{Identity, Known, of_open};
 use guard::names::true_name;
 use guard::others::another_writer;
 use layout::places::Layout;
-use std::io::Error;
+use octets::BLOCK;
 
 // A disk's file, open.
 #[derive(Drop)]
@@ -25,16 +26,21 @@ pub struct Opened {
 // Both files, None for a disk that was said to be dead; and how many pages they hold.
 #[derive(Drop)]
 pub struct Files {
-    pub first: Option<Opened>,
-    pub second: Option<Opened>,
+    pub disks: Mirror<Option<Opened>>,
     pub pages: u32,
 }
 
 // What stands in place of the name of a disk that is dead.
-const DEAD: &str = "-";
+pub const DEAD: &str = "-";
+
+// What can be done about a disk that is none, and about one that was not made to its end.
+const IF_DEAD: &str = "if this disk is dead, give - in its place";
+
+const IF_CUT: &str = "if its making was cut short, remove both disks";
 
 // Refuses a disk that is named like a mark: its death and another disk's name would be one.
 pub fn refuse_mark_name(rt: &HostRuntime, path: &str, name: &str) -> Result<(), Stop> {
+    // The ends in full: `Mark` writes a word, and to build a text of it takes memory, which may be refused.
     if name.ends_with(".dead") || name.ends_with(".alone") {
         return Err(refuse(
             rt,
@@ -45,55 +51,42 @@ pub fn refuse_mark_name(rt: &HostRuntime, path: &str, name: &str) -> Result<(), 
 }
 
 fn open_file(rt: &HostRuntime, path: &str) -> Result<Descriptor, Stop> {
-    match Descriptor::open(rt, path) {
-        Ok(file) => Ok(file),
-        Err(error) => {
-            let error = Error::from_raw_os_error(error);
-            Err(refuse(
-                rt,
-                format_args!(
-                    "{path} can't be opened: {error}; if this disk is dead, give - in its place"
-                ),
-            ))
-        }
+    Descriptor::open(rt, path).map_err(|error| refuse(
+        rt,
+        format_args!("{path} can't be opened: {error}; {IF_DEAD}"),
+    ))
+}
+
+// What is known of a file, which has to be a plain one.
+fn look_at_file(rt: &HostRuntime, path: &str, file: &Descriptor) -> Result<Known, Stop> {
+    let known = of_open(file).map_err(|error| refuse(rt, format_args!("{path}: {error}")))?;
+    if !known.is_plain {
+        return Err(refuse(rt, format_args!("{path} is no plain file; {IF_DEAD}")));
     }
+    Ok(known)
 }
 
 // How many blocks a file of so many bytes has.
 fn whole_blocks(rt: &HostRuntime, path: &str, size: u64) -> Result<u64, Stop> {
-    if size % 1024 != 0 {
+    if size % BLOCK as u64 != 0 {
         return Err(refuse(
             rt,
-            format_args!(
-                "{path} has {size} bytes, which are no whole blocks; if its making was cut short, remove both disks; if this disk is dead, give - in its place"
-            ),
+            format_args!("{path} has {size} bytes, which are no whole blocks; {IF_CUT}; {IF_DEAD}"),
         ));
     }
-    Ok(size / 1024)
+    Ok(size / BLOCK as u64)
 }
 
 fn open_one(rt: &HostRuntime, path: &str) -> Result<Opened, Stop> {
     let file = open_file(rt, path)?;
-    let known = match of_open(&file) {
-        Ok(known) => known,
-        Err(error) => {
-            let error = Error::from_raw_os_error(error);
-            return Err(refuse(rt, format_args!("{path}: {error}")));
-        }
-    };
-    if !known.is_plain {
-        return Err(refuse(
-            rt,
-            format_args!("{path} is no plain file; if this disk is dead, give - in its place"),
-        ));
-    }
+    let known = look_at_file(rt, path, &file)?;
     let blocks = whole_blocks(rt, path, known.size)?;
-    let Some(name) = true_name(rt, &file) else {
-        return Err(refuse(
+    let name = true_name(rt, &file).ok_or_else(|| {
+        refuse(
             rt,
             format_args!("{path} has no full name that the system tells, or none in UTF-8"),
-        ));
-    };
+        )
+    })?;
     refuse_mark_name(rt, path, name.as_str())?;
     Ok(Opened {
         file,
@@ -137,32 +130,31 @@ fn fit_together(rt: &HostRuntime, first: &Opened, second: &Opened) -> Result<(),
 
 // How many pages a disk has.
 fn count_pages(rt: &HostRuntime, disk: &Opened) -> Result<u32, Stop> {
-    match Layout::pages(disk.blocks) {
-        Some(pages) => Ok(pages),
-        None => {
-            let path = disk.path.as_str();
-            let blocks = disk.blocks;
-            Err(refuse(
-                rt,
-                format_args!(
-                    "{path} has {blocks} blocks, and a register's disk 259 to 16777474; if its making was cut short, remove both disks; if this disk is dead, give - in its place"
-                ),
-            ))
-        }
-    }
+    let path = disk.path.as_str();
+    let blocks = disk.blocks;
+    Layout::pages(blocks).ok_or_else(|| {
+        refuse(
+            rt,
+            format_args!(
+                "{path} has {blocks} blocks, and a register's disk 259 to 16777474; {IF_CUT}; {IF_DEAD}"
+            ),
+        )
+    })
 }
 
 // Refuses disks that another process has open to be written.
 fn alone_with(rt: &HostRuntime, files: &[Identity]) -> Result<(), Stop> {
-    match another_writer(rt, files) {
-        Ok(None) => Ok(()),
-        Ok(Some(process)) => Err(refuse(
-            rt,
-            format_args!("process {process} has one of the disks open; one at a time"),
-        )),
-        Err(error) => Err(refuse(
+    let other = another_writer(rt, files).map_err(|error| {
+        refuse(
             rt,
             format_args!("whether another process has the disks open can't be told: {error}"),
+        )
+    })?;
+    match other {
+        None => Ok(()),
+        Some(process) => Err(refuse(
+            rt,
+            format_args!("process {process} has one of the disks open; one at a time"),
         )),
     }
 }
@@ -182,27 +174,21 @@ fn look_at_one(rt: &HostRuntime, disk: &Opened) -> Result<u32, Stop> {
     Ok(pages)
 }
 
-fn look_at(rt: &HostRuntime, first: &Option<Opened>, second: &Option<Opened>) -> Result<u32, Stop> {
-    match first {
-        Some(a) => match second {
-            Some(b) => look_at_both(rt, a, b),
-            None => look_at_one(rt, a),
-        },
-        None => match second {
-            Some(b) => look_at_one(rt, b),
-            None => Err(refuse(rt, "one of the two disks has to live")),
-        },
+// Looks at the disks that live, from outside: how many pages they have.
+fn look_at(rt: &HostRuntime, disks: &Mirror<Option<Opened>>) -> Result<u32, Stop> {
+    match (&disks.first, &disks.second) {
+        (Some(first), Some(second)) => look_at_both(rt, first, second),
+        (Some(disk), None) | (None, Some(disk)) => look_at_one(rt, disk),
+        (None, None) => Err(refuse(rt, "one of the two disks has to live")),
     }
 }
 
 // Opens the disks that are named and looks at them from outside. Nothing is changed.
 pub fn open_files(rt: &HostRuntime, paths: &Paths) -> Result<Files, Stop> {
-    let first = open_given(rt, paths.first.as_str())?;
-    let second = open_given(rt, paths.second.as_str())?;
-    let pages = look_at(rt, &first, &second)?;
-    Ok(Files {
-        first,
-        second,
-        pages,
-    })
+    let disks = Mirror {
+        first: open_given(rt, paths.first.as_str())?,
+        second: open_given(rt, paths.second.as_str())?,
+    };
+    let pages = look_at(rt, &disks)?;
+    Ok(Files { disks, pages })
 }

@@ -1,19 +1,23 @@
 // A start: which disks live, whether a register can have left them so, and recovery.
+ghost use Rattle.std.specs.Prelude.{◌≡◌, true, false, Some, None};
+ghost use Rattle.journal.specs.declared.plan.Plan.TheVariants.{Replay};
+ghost use Rattle.register.specs.declared.start.Logged.TheVariants.{Closed};
+
+use crate::mark::find;
 use crate::open::{Files, Opened};
 use crate::stop::{Stop, refuse};
-use device::mirror::Side;
+use device::Dead;
+use device::mirror::{Mirror, Side};
 use engine::work::Work;
 use files::disk::FileDisk;
-use guard::inspect::{Front, compare_disks, read_front, read_fronts};
-use guard::marks::{Found, Mark};
+use guard::inspect::{Differences, compare_disks, read_front, read_fronts};
+use guard::marks::Mark;
 use guard::pair::{FilePair, Named};
-use guard::part::side_name;
-use guard::{marks, when};
+use guard::when;
 use journal::plan::Plan;
-use layout::log::Log;
+use layout::log::{Front, Log};
 use layout::places::Layout;
 use std::fmt;
-use std::io::Error;
 
 // A register that was recovered, and may be called.
 #[derive(Drop)]
@@ -28,43 +32,36 @@ pub struct Register {
 pub struct Mended {
     // The block that was written on the second disk as it is on the first.
     copied: Option<u64>,
-    // How many pages of a close that was cut were brought to their places.
-    closed: Option<u32>,
-    // How many writes waited and were not closed.
-    dropped: u32,
+    // What became of the writes of the log, if there were any.
+    log: Option<Logged>,
 }
 
-// What a mark says, if it is there.
-fn mark_text(rt: &HostRuntime, disk: &Opened, mark: Mark) -> Result<Option<String>, Stop> {
-    match marks::find(rt, disk.name.as_str(), mark) {
-        Found::No => Ok(None),
-        Found::Yes(text) => Ok(Some(text)),
-        Found::Unknown(error) => {
-            let path = disk.path.as_str();
-            let error = Error::from_raw_os_error(error);
-            Err(refuse(
-                rt,
-                format_args!(
-                    "whether a mark of a death stands beside {path} can't be told: {error}"
-                ),
-            ))
-        }
-    }
+// What became of the writes of the log.
+#[derive(Clone, Copy)]
+enum Logged {
+    // A close was cut: so many pages were brought to their places.
+    Closed(u32),
+    // They waited, and were not closed.
+    Dropped(Writes),
 }
 
-// Since when a disk is dead and why, if it is: a mark says so, or the command line.
+// Since when each of the disks is dead and why, if it is.
+type Deaths = Mirror<Option<String>>;
+
+// Since when the disk of a side is dead and why, if it is: a mark says so, or the command line.
 fn death_of(
     rt: &HostRuntime,
-    disk: &Option<Opened>,
-    other: &Option<Opened>,
+    disks: &Mirror<Option<Opened>>,
+    side: Side,
 ) -> Result<Option<String>, Stop> {
-    if let Some(other) = other {
-        if let Some(text) = mark_text(rt, other, Mark::Alone)? {
-            return Ok(Some(text));
+    if let Some(other) = disks.disk(side.other()) {
+        let death = find(rt, other.path.as_str(), other.name.as_str(), Mark::Alone)?;
+        if death.is_some() {
+            return Ok(death);
         }
     }
-    match disk {
-        Some(disk) => mark_text(rt, disk, Mark::Dead),
+    match disks.disk(side) {
+        Some(disk) => find(rt, disk.path.as_str(), disk.name.as_str(), Mark::Dead),
         None => {
             let moment = when::now(rt);
             Ok(Some(format!(in rt.alloc(); "since {moment}: a start said so")?))
@@ -72,13 +69,17 @@ fn death_of(
     }
 }
 
+fn deaths_of(rt: &HostRuntime, disks: &Mirror<Option<Opened>>) -> Result<Deaths, Stop> {
+    Ok(Mirror {
+        first: death_of(rt, disks, Side::First)?,
+        second: death_of(rt, disks, Side::Second)?,
+    })
+}
+
 // The disk that a file is, or a dead one in its place.
 fn disk_of(file: Option<Opened>, dead: bool) -> Named {
     let Some(opened) = file else {
-        return Named {
-            disk: FileDisk::dead(),
-            name: None,
-        };
+        return Named::new(FileDisk::dead(), None);
     };
     let Opened {
         file,
@@ -87,169 +88,130 @@ fn disk_of(file: Option<Opened>, dead: bool) -> Named {
         ..
     } = opened;
     if dead {
-        return Named {
-            disk: FileDisk::dead(),
-            name: Some(name),
-        };
+        return Named::new(FileDisk::dead(), Some(name));
     }
-    Named {
-        disk: FileDisk::new(file, blocks),
-        name: Some(name),
+    Named::new(FileDisk::new(file, blocks), Some(name))
+}
+
+// Joins the disks into a pair.
+fn join(rt: &HostRuntime, files: Files, deaths: &Deaths, trace: bool) -> FilePair {
+    let Files { disks, pages } = files;
+    let first = disk_of(disks.first, deaths.first.is_some());
+    let second = disk_of(disks.second, deaths.second.is_some());
+    let mut pair = FilePair::new(*rt, first, second, trace);
+    pair.watch(Layout::blocks(pages));
+    pair
+}
+
+// Tells the deaths that are known.
+fn say_deaths(rt: &HostRuntime, deaths: &Deaths) {
+    for side in Side::BOTH {
+        if let Some(text) = deaths.disk(side) {
+            let _ = eprintln!(rt; "register: the {side} disk is dead {text}");
+        }
     }
 }
 
-// Joins the disks into a pair. The deaths that are known are told.
-fn join(rt: &HostRuntime, files: Files, trace: bool) -> Result<Joined, Stop> {
-    let Files {
-        first,
-        second,
-        pages,
-    } = files;
-    let first_death = death_of(rt, &first, &second)?;
-    let second_death = death_of(rt, &second, &first)?;
-    let first = disk_of(first, first_death.is_some());
-    let second = disk_of(second, second_death.is_some());
-    let mut disks = FilePair::new(*rt, first, second, trace);
-    disks.watch(Layout::blocks(pages));
-    Ok(Joined {
-        disks,
-        pages,
-        first_death,
-        second_death,
+// What a disk's front says of the log; refused where no register writes such a front.
+fn log_of(rt: &HostRuntime, side: Side, front: &Front, pages: u32) -> Result<Log, Stop> {
+    front.decode(pages).map_err(|strange| {
+        refuse(
+            rt,
+            format_args!(
+                "the {side} disk has a header that no register of {pages} pages writes: {strange}; nothing was changed; if this disk is to be left out, give - in its place"
+            ),
+        )
     })
 }
 
-// The disks as they are before they are looked through.
-#[derive(Drop)]
-struct Joined {
-    disks: FilePair,
-    pages: u32,
-    // Since when a disk is dead and why.
-    first_death: Option<String>,
-    second_death: Option<String>,
-}
-
-fn say_death(rt: &HostRuntime, side: Side, death: &Option<String>) {
-    if let Some(text) = death {
-        let name = side_name(side);
-        let text = text.as_str();
-        let _ = eprintln!(rt; "register: the {name} disk is dead {text}");
-    }
-}
-
-// Refuses a disk whose header no register writes.
-fn refuse_strange(rt: &HostRuntime, side: Side, front: &Front, pages: u32) -> Result<(), Stop> {
-    if front.is_sane(pages) {
+// Refuses two disks of which one has a header that no register writes.
+fn refuse_strange_one(rt: &HostRuntime, disks: &mut FilePair, pages: u32) -> Result<(), Stop> {
+    // Where one of them is dead, the other's is looked at later.
+    let Ok((first, second)) = read_fronts(disks) else {
         return Ok(());
-    }
-    let name = side_name(side);
-    let fault = front.fault();
-    Err(refuse(
-        rt,
-        format_args!(
-            "the {name} disk has a header that no register of {pages} pages writes: {fault}; nothing was changed; if this disk is to be left out, give - in its place"
-        ),
-    ))
+    };
+    log_of(rt, Side::First, &first, pages)?;
+    log_of(rt, Side::Second, &second, pages)?;
+    Ok(())
 }
 
 // Refuses two disks that no register can have left so.
 fn refuse_unlike(rt: &HostRuntime, disks: &mut FilePair, pages: u32) -> Result<(), Stop> {
-    let Some(found) = compare_disks(disks, pages) else {
-        return Ok(());
-    };
-    if found.count > 1 {
-        let count = found.count;
-        let first = found.first;
-        let last = found.last;
-        return Err(refuse(
+    match compare_disks(disks, pages) {
+        Ok(Some(Differences { count, first, last })) if count > 1 => Err(refuse(
             rt,
             format_args!(
                 "the disks differ in {count} blocks, the first {first} and the last {last}: they are of two registers, or one is an old copy; nothing was changed; give - in place of the one to leave out"
             ),
-        ));
+        )),
+        Ok(_) => refuse_strange_one(rt, disks, pages),
+        // One of them is dead, and there is nothing to compare.
+        Err(Dead) => Ok(()),
     }
-    let Some((a, b)) = read_fronts(disks) else {
-        return Ok(());
-    };
-    refuse_strange(rt, Side::First, &a, pages)?;
-    refuse_strange(rt, Side::Second, &b, pages)
-}
-
-// Both disks failed: nothing more is claimed.
-pub fn both_dead(rt: &HostRuntime) -> Stop {
-    refuse(rt, "both disks are dead; nothing more is claimed")
 }
 
 // Looks through the disks, and refuses what no register can have left. What the log says, off the first disk
 // that lives.
 fn look_through(rt: &HostRuntime, disks: &mut FilePair, pages: u32) -> Result<Log, Stop> {
     refuse_unlike(rt, disks, pages)?;
-    let Some(front) = read_front(disks) else {
-        return Err(both_dead(rt));
-    };
+    let front = read_front(disks)?;
     let side = if disks.lives(Side::First) {
         Side::First
     } else {
         Side::Second
     };
-    refuse_strange(rt, side, &front, pages)?;
-    Ok(front.log(pages))
+    log_of(rt, side, &front, pages)
 }
 
-// Makes a death that is known last, before anything is written.
-fn note_known(disks: &mut FilePair, side: Side, death: &Option<String>) -> Result<(), Stop> {
-    let Some(text) = death else {
-        return Ok(());
-    };
-    if !disks.note(side, text.as_str()) {
-        return Err(Stop::Said);
+// Makes the deaths that are known last, before anything is written. Of one that can't be noted that was said.
+fn note_deaths(disks: &mut FilePair, deaths: &Deaths) -> Result<(), Stop> {
+    for side in Side::BOTH {
+        if let Some(text) = deaths.disk(side) {
+            disks.note(side, text.as_str()).map_err(|_dead| Stop::Said)?;
+        }
     }
     Ok(())
 }
 
-// What a recovery that was worked out will do.
-fn mended_by(work: &Work, log: Log) -> Mended {
-    let closed = match work.plan {
-        Plan::Replay { count } => Some(count),
-        Plan::Nothing | Plan::Write { .. } | Plan::Close { .. } | Plan::Make { .. } => None,
-    };
-    if log.holds {
-        return Mended {
-            copied: work.copy,
-            closed,
-            dropped: 0,
-        };
-    }
-    Mended {
-        copied: work.copy,
-        closed: None,
-        dropped: log.count,
+impl Logged {
+    // What becomes of the writes of a log, by what recovery will do.
+    fn of(plan: Plan, log: Log) -> Option<Logged>
+        ensures closed { log.holds ≡ true → (count : _) → plan ≡ Replay count → result ≡ Some (Closed count.writes) }
+        ensures none { log.holds ≡ false → log.count.writes ≡ 0 → result ≡ None }
+    {
+        match (log.holds, plan) {
+            (true, Plan::Replay { count }) => Some(Logged::Closed(count.writes)),
+            (false, _) if log.count.writes > 0 => Some(Logged::Dropped(Writes(log.count.writes))),
+            _ => None,
+        }
     }
 }
 
-impl Mended {
-    fn is_nothing(&self) -> bool {
-        self.copied.is_none() && self.closed.is_none() && self.dropped == 0
-    }
-}
-
-// So many writes, in words.
+// So many writes, in words. The simulator has the like: another program, with no crate in common for words.
 #[derive(Clone, Copy)]
 pub struct Writes(pub u32);
 
 impl fmt::Display for Writes {
     fn fmt<W: fmt::Write>(&self, f: &mut fmt::Formatter<W>) -> fmt::Result {
-        let n = self.0;
-        if n == 1 {
-            return f.write_str("1 write was not closed and is dropped");
+        match self.0 {
+            1 => f.write_str("1 write was not closed and is dropped"),
+            n => write!(f, "{n} writes were not closed and are dropped"),
         }
-        write!(f, "{n} writes were not closed and are dropped")
+    }
+}
+
+impl fmt::Display for Logged {
+    fn fmt<W: fmt::Write>(&self, f: &mut fmt::Formatter<W>) -> fmt::Result {
+        match self {
+            Logged::Closed(count) => write!(f, "a close that was cut is done, pages: {count}"),
+            Logged::Dropped(writes) => write!(f, "{writes}"),
+        }
     }
 }
 
 impl fmt::Display for Mended {
     fn fmt<W: fmt::Write>(&self, f: &mut fmt::Formatter<W>) -> fmt::Result {
-        if self.is_nothing() {
+        if self.copied.is_none() && self.log.is_none() {
             return f.write_str("nothing to mend");
         }
         f.write_str("mended")?;
@@ -259,12 +221,8 @@ impl fmt::Display for Mended {
                 "; block {block} is on the second disk now as on the first"
             )?;
         }
-        if let Some(count) = self.closed {
-            write!(f, "; a close that was cut is done, pages: {count}")?;
-        }
-        if self.dropped > 0 {
-            let writes = Writes(self.dropped);
-            write!(f, "; {writes}")?;
+        if let Some(log) = self.log {
+            write!(f, "; {log}")?;
         }
         Ok(())
     }
@@ -275,12 +233,12 @@ pub fn life(disks: &FilePair, side: Side) -> &'static str {
 }
 
 // Recovers the disks, and says what was mended.
-fn recover(rt: &HostRuntime, disks: FilePair, pages: u32, log: Log) -> Result<Register, Stop> {
-    let mut disks = disks;
-    let Some(work) = engine::recover::recover(&mut disks, pages) else {
-        return Err(both_dead(rt));
+fn recover(rt: &HostRuntime, mut disks: FilePair, pages: u32, log: Log) -> Result<Register, Stop> {
+    let Work { copy, plan, .. } = engine::recover::recover(&mut disks, pages)?;
+    let mended = Mended {
+        copied: copy,
+        log: Logged::of(plan, log),
     };
-    let mended = mended_by(&work, log);
     let first = life(&disks, Side::First);
     let second = life(&disks, Side::Second);
     let _ = eprintln!(rt;
@@ -294,19 +252,10 @@ fn recover(rt: &HostRuntime, disks: FilePair, pages: u32, log: Log) -> Result<Re
 }
 
 // Refuses disks that are both dead.
-fn refuse_both_dead(
-    rt: &HostRuntime,
-    first: &Option<String>,
-    second: &Option<String>,
-) -> Result<(), Stop> {
-    let Some(first) = first else {
+fn refuse_both_dead(rt: &HostRuntime, deaths: &Deaths) -> Result<(), Stop> {
+    let (Some(first), Some(second)) = (&deaths.first, &deaths.second) else {
         return Ok(());
     };
-    let Some(second) = second else {
-        return Ok(());
-    };
-    let first = first.as_str();
-    let second = second.as_str();
     Err(refuse(
         rt,
         format_args!(
@@ -317,18 +266,12 @@ fn refuse_both_dead(
 
 // Starts the register on files that were opened.
 pub fn start(rt: &HostRuntime, files: Files, trace: bool) -> Result<Register, Stop> {
-    let Joined {
-        disks,
-        pages,
-        first_death,
-        second_death,
-    } = join(rt, files, trace)?;
-    let mut disks = disks;
-    refuse_both_dead(rt, &first_death, &second_death)?;
+    let deaths = deaths_of(rt, &files.disks)?;
+    refuse_both_dead(rt, &deaths)?;
+    let pages = files.pages;
+    let mut disks = join(rt, files, &deaths, trace);
     let log = look_through(rt, &mut disks, pages)?;
-    say_death(rt, Side::First, &first_death);
-    say_death(rt, Side::Second, &second_death);
-    note_known(&mut disks, Side::First, &first_death)?;
-    note_known(&mut disks, Side::Second, &second_death)?;
+    say_deaths(rt, &deaths);
+    note_deaths(&mut disks, &deaths)?;
     recover(rt, disks, pages, log)
 }

@@ -4,6 +4,7 @@
 // be the stream's own, and answers would be written into a disk. So the null device takes these numbers
 // first; it is opened the wrong way round, so that to read the one or to write the others is an error.
 use std::fs::{File, OpenOptions};
+use std::io;
 use std::os::fd::{AsRawFd, IntoRawFd};
 
 const NULL: &str = "/dev/null";
@@ -22,19 +23,13 @@ fn keep_to(last: i32, file: File) -> bool {
     true
 }
 
-// Takes every number below 3 that is free. False: the null device can't be opened.
-pub fn hold(rt: &HostRuntime) -> bool {
-    let Ok(to_write) = OpenOptions::new().append(true).open(rt, NULL) else {
-        return false;
-    };
-    keep_to(STDIN, to_write);
-    for _ in 0..3 {
-        let Ok(to_read) = File::open(rt, NULL) else {
-            return false;
-        };
-        if !keep_to(STDERR, to_read) {
-            return true;
+// Takes every number below 3 that is free. An error: the null device can't be opened.
+pub fn hold(rt: &HostRuntime) -> io::Result<()> {
+    keep_to(STDIN, OpenOptions::new().append(true).open(rt, NULL)?);
+    for _ in STDIN..=STDERR {
+        if !keep_to(STDERR, File::open(rt, NULL)?) {
+            return Ok(());
         }
     }
-    true
+    Ok(())
 }
