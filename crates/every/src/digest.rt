@@ -3,9 +3,8 @@
 // Two digests of 64 bits each, by different rules: that two different worlds have both the same is possible,
 // and not to be expected.
 use explain::book::Book;
-use explain::check::book_by;
+use explain::check::History;
 use std::alloc::{AllocError, Global};
-use world::history::Event;
 
 #[derive(Clone, Copy, PartialEq, Eq, PartialOrd, Ord)]
 pub struct Digest(u64, u64);
@@ -29,39 +28,30 @@ impl Digest {
 
     // Eight bytes at a time; what is left at the end counts for nothing.
     pub fn bytes(self, bytes: &[u8]) -> Digest {
-        let mut digest = self;
-        for i in 0..bytes.len() / 8 {
-            let at = 8 * i;
-            let low = octets::get_u32(bytes, at);
-            let high = octets::get_u32(bytes, at + 4);
-            digest = digest.word((u64::from(high) << 32) | u64::from(low));
-        }
-        digest
+        bytes.as_chunks::<8>().0.iter().fold(
+            self,
+            |digest, word| digest.word(u64::from_le_bytes(*word)),
+        )
     }
 
     // All that a book has.
     fn book(self, book: &Book) -> Digest {
-        let mut digest = self.word(u64::from(book.waiting()));
-        for number in 0..book.pages() {
-            digest = digest.bytes(&book.page(number)).bytes(&book.coming(number));
-        }
-        digest
+        book.pages()
+            .iter()
+            .fold(self.word(u64::from(book.waiting())), |digest, page| {
+                digest.bytes(&page.holds).bytes(&page.coming)
+            })
     }
 }
 
-// The digests of the books that explain what happened, in ascending order and each once.
-pub fn books(
-    heap: Global,
-    pages: u32,
-    past: &[Event],
-    choices: u64,
-) -> Result<Vec<Digest>, AllocError> {
-    let mut digests = Vec::new(heap);
-    for choice in 0..choices {
-        if let Some(book) = book_by(pages, past, choice) {
-            digests.push(Digest::START.book(&book))?;
-        }
-    }
+// The digests of the books that explain what happened, in ascending order and each once. No set: they are
+// few, and only gone through. The walk over the ways stands here again: no function can give a chain back,
+// and books put into a `Vec` could be missed for want of memory.
+pub fn books(heap: Global, history: History<'_>) -> Result<Vec<Digest>, AllocError> {
+    let mut digests: Vec<Digest> = (0..history.ways())
+        .filter_map(|choices| history.book(choices))
+        .map(|book| Digest::START.book(&book))
+        .collect(heap)?;
     digests.sort_unstable();
     digests.dedup();
     Ok(digests)

@@ -3,26 +3,22 @@
 // A play is gone through moment by moment. At each moment the worlds that a mishap makes of it are put on a
 // stack, and are played to their ends before it goes on; so there are never more worlds in memory than
 // mishaps can follow each other.
-use crate::advance::{Step, advance, settle};
+use crate::advance::Step;
 use crate::digest::Digest;
 use crate::look::Failure;
-use crate::run::Run;
+use crate::run::{Halt, Run};
 use crate::trail::script_of;
 use device::mirror::Side;
-use script::order::{Fault, Order, Script, Wrong};
-use std::alloc::Global;
+use script::order::{Command, Fault, Order, Script, Wrong};
+use std::alloc::{AllocError, AllocFailed, Global};
 use std::collections::BTreeSet;
-use world::world::{Unmade, World};
-
-// How often power goes that the script doesn't have, and how many disks die.
-const POWERS: u8 = 3;
-
-const DEATHS: u8 = 1;
+use std::fmt;
+use world::world::Unmade;
 
 // The most reads of one disk at the beginning of a call or recovery.
 const MOST_READS: u64 = 100;
 
-#[derive(Clone, Copy)]
+#[derive(Clone, Copy, Default, PartialEq, Eq, Debug)]
 pub struct Counts {
     // Worlds that were looked at, and how many of them at rest.
     pub worlds: u64,
@@ -49,107 +45,165 @@ pub struct Outcome {
     pub found: Option<Found>,
 }
 
-// Somebody who is told how far the search is.
-pub trait Watch {
-    fn watch(&mut self, counts: Counts);
+// As lines.
+impl fmt::Display for Outcome {
+    fn fmt<W: fmt::Write>(&self, f: &mut fmt::Formatter<W>) -> fmt::Result {
+        let Counts {
+            worlds,
+            rests,
+            plays,
+            met,
+            powers,
+            deaths,
+        } = self.counts;
+        writeln!(f, "{worlds:>9}  worlds, {rests} of them at rest")?;
+        writeln!(
+            f,
+            "{powers:>9}  times power went, and {deaths} times a disk died, that the script does not have"
+        )?;
+        writeln!(
+            f,
+            "{plays:>9}  plays came to the end of the script, and {met} to a rest that was met before"
+        )?;
+        let Some(found) = &self.found else {
+            return writeln!(f, "           nothing fails");
+        };
+        let why = found.why;
+        let script = found.script.as_str();
+        write!(f, "           FAILS: {why}, here:\n{script}")
+    }
+}
+
+// What is to be done with a run: its world is looked at, or it goes on.
+#[derive(Drop)]
+enum Task<'a> {
+    Look(Run<'a>),
+    GoOn(Run<'a>),
+}
+
+// Why a search ends before all is played.
+#[derive(Drop)]
+enum Stop {
+    Found(Found),
+    Wrong(Wrong),
+}
+
+impl From<AllocError> for Stop {
+    fn from(_e: AllocError) -> Stop {
+        Stop::Wrong(Wrong::Memory)
+    }
+}
+
+impl<T: Drop> From<AllocFailed<T>> for Stop {
+    fn from(_e: AllocFailed<T>) -> Stop {
+        Stop::Wrong(Wrong::Memory)
+    }
+}
+
+impl From<Unmade> for Stop {
+    fn from(why: Unmade) -> Stop {
+        Stop::Wrong(why.into())
+    }
 }
 
 #[derive(Drop)]
-struct Search {
+struct Search<'a> {
     heap: Global,
-    stack: Vec<Run>,
+    stack: Vec<Task<'a>>,
     met: BTreeSet<Digest>,
     counts: Counts,
-    found: Option<Found>,
 }
 
 fn bump(n: &mut u64) {
     *n = n.saturating_add(1);
 }
 
-impl Search {
-    fn push(&mut self, run: Run) -> Result<(), Wrong> {
-        self.stack.push(run)?;
+// The script that leads to a world in which something fails, or why there is none.
+fn stop_at(heap: Global, run: &Run<'_>, halt: Halt) -> Stop {
+    let Halt::Failed(why) = halt else {
+        return Stop::Wrong(Wrong::Memory);
+    };
+    match script_of(heap, run.world.pages(), run.trail.as_slice()) {
+        Ok(script) => Stop::Found(Found { why, script }),
+        Err(e) => e.into(),
+    }
+}
+
+impl<'a> Search<'a> {
+    fn push(&mut self, task: Task<'a>) -> Result<(), Stop> {
+        self.stack.push(task)?;
         Ok(())
     }
 
-    fn fail(&mut self, script: &Script, run: &Run, why: Failure) -> Result<(), Wrong> {
-        let text = script_of(self.heap, script, run.trail.as_slice())?;
-        self.found = Some(Found { why, script: text });
-        Ok(())
-    }
-
-    // A run that a mishap made of another, if the world took it.
-    fn push_struck(&mut self, script: &Script, run: Run, struck: bool) -> Result<(), Wrong> {
-        if !struck {
-            return self.fail(script, &run, Failure::Refused);
-        }
-        self.push(run)
-    }
-
-    // Another run like the one at this place of the stack.
-    fn copy(&self, at: usize) -> Result<Option<Run>, Wrong> {
-        match self.stack.get(at) {
-            Some(run) => Ok(Some(run.copy(self.heap)?)),
-            None => Ok(None),
-        }
-    }
-
-    fn spawn_cut(&mut self, script: &Script, at: usize) -> Result<(), Wrong> {
-        let Some(mut run) = self.copy(at)? else {
-            return Ok(());
-        };
-        bump(&mut self.counts.powers);
-        let struck = run.cut()?;
-        self.push_struck(script, run, struck)
-    }
-
-    fn spawn_death(&mut self, script: &Script, at: usize, side: Side) -> Result<(), Wrong> {
-        let Some(mut run) = self.copy(at)? else {
-            return Ok(());
-        };
-        bump(&mut self.counts.deaths);
-        let struck = run.die(side)?;
-        self.push_struck(script, run, struck)
+    // The run that a mishap makes of another.
+    fn struck<F: FnOnce(&mut Run<'a>) -> Result<(), Halt>>(
+        &self,
+        run: &Run<'a>,
+        mishap: F,
+    ) -> Result<Run<'a>, Stop>
+        requires { F.IsAlwaysCallable mishap }
+    {
+        let mut run = run.copy(self.heap)?;
+        mishap(&mut run).map_err(|halt| stop_at(self.heap, &run, halt))?;
+        Ok(run)
     }
 
     // A disk dies at each of its reads at the beginning of what is next.
-    fn spawn_reads(&mut self, script: &Script, at: usize, side: Side) -> Result<(), Wrong> {
+    fn die_reading(
+        &mut self,
+        run: &Run<'a>,
+        side: Side,
+        runs: &mut Vec<Run<'a>>,
+    ) -> Result<(), Stop> {
         for read in 1..MOST_READS {
-            let Some(mut run) = self.copy(at)? else {
-                return Ok(());
-            };
-            if !run.die_reading(script, side, read)? {
-                return Ok(());
+            let mut struck = run.copy(self.heap)?;
+            let dies = struck
+                .die_reading(side, read)
+                .map_err(|halt| stop_at(self.heap, &struck, halt))?;
+            if !dies {
+                break;
             }
             bump(&mut self.counts.deaths);
-            self.push(run)?;
+            runs.push(struck)?;
         }
         Ok(())
     }
 
-    fn spawn_deaths(&mut self, script: &Script, at: usize, reads: bool) -> Result<(), Wrong> {
-        for side in [Side::First, Side::Second] {
-            self.spawn_death(script, at, side)?;
-            if reads {
-                self.spawn_reads(script, at, side)?;
-            }
+    fn die(&mut self, run: &Run<'a>, side: Side, runs: &mut Vec<Run<'a>>) -> Result<(), Stop> {
+        bump(&mut self.counts.deaths);
+        runs.push(self.struck(run, |run| run.die(side))?)?;
+        if run.may_die_reading() {
+            self.die_reading(run, side, runs)?;
         }
         Ok(())
+    }
+
+    // All that a mishap can make of a run now.
+    fn mishaps(&mut self, run: &Run<'a>) -> Result<Vec<Run<'a>>, Stop> {
+        let mut runs = Vec::new(self.heap);
+        if run.may_cut() {
+            bump(&mut self.counts.powers);
+            runs.push(self.struck(run, |run| run.cut())?)?;
+        }
+        if run.may_die() {
+            for side in Side::BOTH {
+                self.die(run, side, &mut runs)?;
+            }
+        }
+        Ok(runs)
     }
 
     // Whether a run at rest is met for the first time.
-    fn is_new(&mut self, run: &Run) -> Result<bool, Wrong> {
+    fn is_new(&mut self, run: &Run<'a>) -> Result<bool, Stop> {
         let digest = run.digest(self.heap)?;
         Ok(self.met.insert(digest)?)
     }
 
-    // Looks at the world of a run, and puts it back with all that a mishap can make of it.
-    fn look(&mut self, script: &Script, mut run: Run) -> Result<(), Wrong> {
+    // Looks at the world of a run. It goes on after all that a mishap can make of it.
+    fn look(&mut self, mut run: Run<'a>) -> Result<(), Stop> {
         bump(&mut self.counts.worlds);
-        if let Some(why) = run.look() {
-            return self.fail(script, &run, why);
-        }
+        run.look()
+            .map_err(|why| stop_at(self.heap, &run, Halt::Failed(why)))?;
         if run.is_at_rest() {
             bump(&mut self.counts.rests);
             if !self.is_new(&run)? {
@@ -157,26 +211,22 @@ impl Search {
                 return Ok(());
             }
         }
-        run.seen = true;
-        let may_cut = run.may_cut();
-        let may_die = run.may_die();
-        let reads = run.may_die_reading(script);
-        let at = self.stack.len();
-        self.push(run)?;
-        if may_cut {
-            self.spawn_cut(script, at)?;
-        }
-        if may_die {
-            self.spawn_deaths(script, at, reads)?;
+        let mishaps = self.mishaps(&run)?;
+        self.push(Task::GoOn(run))?;
+        for struck in mishaps {
+            self.push(Task::Look(struck))?;
         }
         Ok(())
     }
 
     // A run goes on by one step.
-    fn go_on(&mut self, script: &Script, mut run: Run) -> Result<(), Wrong> {
-        match advance(&mut run, script)? {
-            Step::On => self.push(run),
-            Step::Refused => self.fail(script, &run, Failure::Refused),
+    fn go_on(&mut self, mut run: Run<'a>) -> Result<(), Stop> {
+        let step = run
+            .advance()
+            .map_err(|halt| stop_at(self.heap, &run, halt))?;
+        match step {
+            Step::Changed => self.push(Task::Look(run)),
+            Step::Same => self.push(Task::GoOn(run)),
             Step::End => {
                 bump(&mut self.counts.plays);
                 Ok(())
@@ -184,78 +234,74 @@ impl Search {
         }
     }
 
-    fn turn(&mut self, script: &Script, run: Run) -> Result<(), Wrong> {
-        if run.seen {
-            return self.go_on(script, run);
+    fn turn(&mut self, task: Task<'a>) -> Result<(), Stop> {
+        match task {
+            Task::Look(run) => self.look(run),
+            Task::GoOn(run) => self.go_on(run),
         }
-        self.look(script, run)
+    }
+
+    // Goes through all plays of a script, and tells after each world how far it is.
+    fn go_through<W: FnMut(Counts)>(&mut self, script: &'a Script, mut watch: W) -> Result<(), Stop>
+        requires { W.IsAlwaysCallable watch }
+    {
+        let first = Run::new(self.heap, script)?;
+        self.push(Task::Look(first))?;
+        // No `while let`: nothing says how many worlds a script has, and a loop has to end.
+        for _ in 0..u64::MAX {
+            let Some(task) = self.stack.pop() else {
+                break;
+            };
+            self.turn(task)?;
+            watch(self.counts);
+        }
+        Ok(())
     }
 }
 
-// The line of a command that isn't explored, if there is one.
-fn unexplored(script: &Script) -> Option<usize> {
-    for command in script.commands.iter() {
-        if matches!(command.order, Order::Times(_, _) | Order::Set { .. }) {
-            return Some(command.line);
-        }
-    }
-    None
+// Whether a command is only played, and not explored.
+fn is_unexplored(command: &Command) -> bool {
+    matches!(command.order, Order::Times(_, _) | Order::Set { .. })
 }
 
-fn first_run(heap: Global, script: &Script) -> Result<Run, Wrong> {
-    match World::new(heap, script.pages) {
-        Ok(world) => {
-            let mut run = Run::new(heap, world, POWERS, DEATHS);
-            settle(&mut run, script);
-            Ok(run)
-        }
-        Err(Unmade::Pages) => Err(Wrong::PagesOutside),
-        Err(Unmade::Memory) => Err(Wrong::Memory),
-    }
-}
-
-fn go_through<W: Watch>(heap: Global, script: &Script, watch: &mut W) -> Result<Outcome, Wrong> {
+// What came of the search through a script.
+fn search_through<W: FnMut(Counts)>(
+    heap: Global,
+    script: &Script,
+    watch: W,
+) -> Result<Outcome, Wrong>
+    requires { W.IsAlwaysCallable watch }
+{
     let mut search = Search {
         heap,
         stack: Vec::new(heap),
         met: BTreeSet::new(heap),
-        counts: Counts {
-            worlds: 0,
-            rests: 0,
-            plays: 0,
-            met: 0,
-            powers: 0,
-            deaths: 0,
-        },
-        found: None,
+        counts: Counts::default(),
     };
-    search.push(first_run(heap, script)?)?;
-    for _ in 0..u64::MAX {
-        let Some(run) = search.stack.pop() else {
-            break;
-        };
-        search.turn(script, run)?;
-        if search.found.is_some() {
-            break;
-        }
-        watch.watch(search.counts);
-    }
+    let found = match search.go_through(script, watch) {
+        Ok(()) => None,
+        Err(Stop::Found(found)) => Some(found),
+        Err(Stop::Wrong(wrong)) => return Err(wrong),
+    };
     Ok(Outcome {
         counts: search.counts,
-        found: search.found,
+        found,
     })
 }
 
 // Plays the script with mishaps at every moment.
-pub fn explore<W: Watch>(heap: Global, script: &Script, watch: &mut W) -> Result<Outcome, Fault> {
-    if let Some(line) = unexplored(script) {
+pub fn explore<W: FnMut(Counts)>(heap: Global, script: &Script, watch: W) -> Result<Outcome, Fault>
+    requires { W.IsAlwaysCallable watch }
+{
+    let unexplored = script
+        .commands
+        .iter()
+        .find(|command| is_unexplored(command));
+    if let Some(command) = unexplored {
         return Err(Fault {
-            line,
+            line: command.line,
             wrong: Wrong::NotExplored,
         });
     }
-    match go_through(heap, script, watch) {
-        Ok(outcome) => Ok(outcome),
-        Err(wrong) => Err(Fault { line: 1, wrong }),
-    }
+    search_through(heap, script, watch).map_err(|wrong| Fault { line: 1, wrong })
 }

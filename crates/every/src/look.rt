@@ -1,13 +1,14 @@
 // A look at one world: what has to hold of it.
 use device::mirror::Side;
 use explain::book::Book;
-use explain::check::book_by;
+use explain::check::History;
 use layout::places::Layout;
+use octets::{BLOCK, Block};
 use std::fmt;
 use world::world::World;
 
 // What doesn't hold of a world.
-#[derive(Clone, Copy)]
+#[derive(Clone, Copy, PartialEq, Eq, Debug)]
 pub enum Failure {
     NoBook,
     TwoDiffer,
@@ -20,96 +21,89 @@ pub enum Failure {
 impl fmt::Display for Failure {
     fn fmt<W: fmt::Write>(&self, f: &mut fmt::Formatter<W>) -> fmt::Result {
         match *self {
-            Failure::NoBook => write!(f, "no book explains what happened"),
-            Failure::TwoDiffer => write!(f, "the disks differ in more than one block"),
-            Failure::NotSame => write!(f, "the disks differ at rest"),
-            Failure::NotStanding => write!(f, "what holds does not stand on the disks"),
-            Failure::Refused => write!(f, "a step that is possible was refused"),
+            Failure::NoBook => f.write_str("no book explains what happened"),
+            Failure::TwoDiffer => f.write_str("the disks differ in more than one block"),
+            Failure::NotSame => f.write_str("the disks differ at rest"),
+            Failure::NotStanding => f.write_str("what holds does not stand on the disks"),
+            Failure::Refused => f.write_str("a step that is possible was refused"),
         }
     }
 }
 
-fn both_live(world: &World) -> bool {
+// Whether no disk died.
+pub fn both_live(world: &World) -> bool {
     world.is_alive(Side::First) && world.is_alive(Side::Second)
 }
 
+// The blocks of a disk.
+fn blocks(disk: &[u8]) -> &[Block] {
+    disk.as_chunks::<BLOCK>().0
+}
+
 // In how many blocks two disks differ.
-fn differing(first: &[u8], second: &[u8]) -> u32 {
-    let mut n: u32 = 0;
-    for i in 0..first.len().min(second.len()) / 1024 {
-        if !octets::same(
-            octets::block_at(first, 1024 * i),
-            octets::block_at(second, 1024 * i),
-        ) {
-            n = n.saturating_add(1);
-        }
-    }
-    n
+fn differing(first: &[u8], second: &[u8]) -> usize {
+    blocks(first)
+        .iter()
+        .zip(blocks(second))
+        .filter(|(a, b)| a != b)
+        .count()
 }
 
 // Two living disks differ in one block at most, and at rest in none.
-pub fn replicas(world: &World, rest: bool) -> Option<Failure> {
-    if !both_live(world) {
-        return None;
-    }
+pub fn replicas(world: &World, rest: bool) -> Result<(), Failure> {
     let first = world.disk(Side::First);
     let second = world.disk(Side::Second);
-    if octets::same(first, second) {
-        return None;
+    if !both_live(world) || first == second {
+        return Ok(());
     }
     if rest {
-        return Some(Failure::NotSame);
+        return Err(Failure::NotSame);
     }
     if differing(first, second) > 1 {
-        return Some(Failure::TwoDiffer);
+        return Err(Failure::TwoDiffer);
     }
-    None
+    Ok(())
 }
 
 // Whether the pages that hold in a book stand on a disk.
 fn stands(book: &Book, disk: &[u8]) -> bool {
-    let blocks = (disk.len() / 1024) as u64;
-    for number in 0..book.pages() {
-        let block = Layout::page(number);
-        if block >= blocks {
-            return false;
-        }
-        if !octets::same(
-            octets::block_at(disk, 1024 * block as usize),
-            &book.page(number),
-        ) {
-            return false;
-        }
-    }
-    true
+    let pages = book.pages();
+    let blocks = blocks(disk)
+        .iter()
+        .skip(Layout::PAGES as usize)
+        .take(pages.len());
+    pages.iter().map(|page| &page.holds).eq(blocks)
 }
 
 // Whether the pages that hold in a book stand on each disk that lives.
 fn stands_on_all(book: &Book, world: &World) -> bool {
-    let first = !world.is_alive(Side::First) || stands(book, world.disk(Side::First));
-    let second = !world.is_alive(Side::Second) || stands(book, world.disk(Side::Second));
-    first && second
+    Side::BOTH.iter().all(|side| !world.is_alive(*side) || stands(book, world.disk(*side)))
 }
 
-// At rest the pages that hold stand on the disks, by one of the books that explain what happened; choices:
-// how many books there are to choose from.
-pub fn pages_stand(world: &World, choices: u64) -> Option<Failure> {
-    for choice in 0..choices {
-        if let Some(book) = book_by(world.pages(), world.past(), choice) {
-            if stands_on_all(&book, world) {
-                return None;
-            }
-        }
+// Whether one of the books that explain what happened in a world is such a book.
+fn any_book<F: FnMut(Book) -> bool>(world: &World, is_such: F) -> bool
+    requires { F.IsAlwaysCallable is_such }
+{
+    let history = History::of(world);
+    (0..history.ways())
+        .filter_map(|choices| history.book(choices))
+        .any(is_such)
+}
+
+// At rest the pages that hold stand on the disks, by one of the books that explain what happened.
+pub fn pages_stand(world: &World) -> Result<(), Failure> {
+    if any_book(world, |book| stands_on_all(&book, world)) {
+        Ok(())
+    } else {
+        Err(Failure::NotStanding)
     }
-    Some(Failure::NotStanding)
 }
 
 // A book explains what happened.
-pub fn explained(world: &World, choices: u64) -> Option<Failure> {
-    for choice in 0..choices {
-        if book_by(world.pages(), world.past(), choice).is_some() {
-            return None;
-        }
+pub fn explained(world: &World) -> Result<(), Failure> {
+    if any_book(world, |_| true) {
+        Ok(())
+    } else {
+        Err(Failure::NoBook)
     }
-    Some(Failure::NoBook)
 }

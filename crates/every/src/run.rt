@@ -1,15 +1,61 @@
 // One play under way: the world, where in the script it is, and what may still strike it.
+ghost use Rattle.std.specs.Prelude.{◌≡◌, ◌≤◌, true, length, drop, Decides, IfOk};
+ghost use Rattle.every.specs.declared.run.Phase.TheVariants.{Rest};
+
 use crate::digest::{Digest, books};
-use crate::look::{Failure, explained, pages_stand, replicas};
+use crate::look::{Failure, both_live, explained, pages_stand, replicas};
 use crate::trail::Trail;
 use device::mirror::Side;
-use explain::check::choices;
-use script::order::{Moment, Order, Script};
-use std::alloc::{AllocError, Global};
+use explain::check::History;
+use script::order::{Command, Moment, Order, Script};
+use std::alloc::{AllocError, AllocFailed, Global};
 use world::history::Asked;
-use world::world::World;
+use world::world::{NotTaken, Unmade, World};
 
-#[derive(Clone, Copy)]
+// How often power goes that the script doesn't have, and how many disks die.
+const POWERS: u8 = 3;
+
+const DEATHS: u8 = 1;
+
+// Why a run doesn't go on.
+#[derive(Clone, Copy, PartialEq, Eq, Debug)]
+pub enum Halt {
+    Failed(Failure),
+    Memory,
+}
+
+impl From<Failure> for Halt {
+    fn from(why: Failure) -> Halt {
+        Halt::Failed(why)
+    }
+}
+
+// A step that should be possible and that the world did not take, whatever the reason: also a want of memory in
+// a world's step is told as a step that was refused.
+impl From<NotTaken> for Halt {
+    fn from(_why: NotTaken) -> Halt {
+        Halt::Failed(Failure::Refused)
+    }
+}
+
+impl From<AllocError> for Halt {
+    fn from(_e: AllocError) -> Halt {
+        Halt::Memory
+    }
+}
+
+impl<T: Drop> From<AllocFailed<T>> for Halt {
+    fn from(_e: AllocFailed<T>) -> Halt {
+        Halt::Memory
+    }
+}
+
+// Whether a command changes nothing where power is there and nothing is under way.
+fn is_idle(command: &Command) -> bool {
+    matches!(command.order, Order::Recover | Order::Quiet | Order::Loud)
+}
+
+#[derive(Clone, Copy, PartialEq, Eq, Debug)]
 pub enum Phase {
     // Nothing is under way.
     Rest,
@@ -17,108 +63,90 @@ pub enum Phase {
     Call,
     // Power went by the script, which says when it comes back.
     Down,
-    // Recovery is under way; extra: after a power that the script doesn't have.
-    Recovery { extra: bool },
+    // Recovery is under way, by the script.
+    Recovery,
+    // Recovery is under way after a power that the script doesn't have.
+    Unforeseen,
 }
 
 #[derive(Drop)]
-pub struct Run {
+pub struct Run<'a> {
     pub world: World,
     pub phase: Phase,
-    // The command that is under way or next.
-    pub at: usize,
+    // The commands that are left, from the one that is under way or next.
+    pub left: &'a [Command],
     // How many more times power may go, and how many more disks may die.
     pub powers: u8,
-    pub deaths: u8,
-    // What the script has for this moment came.
+    deaths: u8,
+    // What the script has for this moment came. Not a phase of its own: a call and a recovery each have it.
     pub struck: bool,
-    // This world was looked at.
-    pub seen: bool,
     // How much of what happened was explained.
     explained: usize,
-    pub trail: Vec<Trail>,
+    pub trail: Vec<Trail<'a>>,
 }
 
-// How many ways there are to explain what happened: each call that was cut early or late.
-fn ways(world: &World) -> u64 {
-    1u64 << choices(world.past()).min(16)
-}
-
-impl Run {
-    pub fn new(heap: Global, world: World, powers: u8, deaths: u8) -> Run {
-        Run {
-            world,
+impl<'a> Run<'a> {
+    // Before the first command of a script that changes something.
+    pub fn new(heap: Global, script: &'a Script) -> Result<Run<'a>, Unmade> {
+        let mut run = Run {
+            world: World::new(heap, script.pages)?,
             phase: Phase::Rest,
-            at: 0,
-            powers,
-            deaths,
+            left: script.commands.as_slice(),
+            powers: POWERS,
+            deaths: DEATHS,
             struck: false,
-            seen: false,
             explained: 0,
             trail: Vec::new(heap),
-        }
+        };
+        run.settle();
+        Ok(run)
     }
 
-    pub fn copy(&self, heap: Global) -> Result<Run, AllocError> {
+    pub fn copy(&self, heap: Global) -> Result<Run<'a>, AllocError> {
         Ok(Run {
             world: self.world.copy(heap)?,
             phase: self.phase,
-            at: self.at,
+            left: self.left,
             powers: self.powers,
             deaths: self.deaths,
             struck: self.struck,
-            seen: false,
             explained: self.explained,
             trail: Vec::from_slice(heap, self.trail.as_slice())?,
         })
     }
 
-    pub fn is_at_rest(&self) -> bool {
-        matches!(self.phase, Phase::Rest)
-    }
-
-    fn is_in_recovery(&self) -> bool {
-        matches!(self.phase, Phase::Recovery { .. })
+    pub fn is_at_rest(&self) -> bool
+        ensures { Decides result (self.now.phase ≡ Rest) }
+    {
+        self.phase == Phase::Rest
     }
 
     // What doesn't hold of the world as it is now.
-    pub fn look(&mut self) -> Option<Failure> {
+    pub fn look(&mut self) -> Result<(), Failure> {
         let rest = self.is_at_rest();
-        if let Some(failure) = replicas(&self.world, rest) {
-            return Some(failure);
-        }
+        replicas(&self.world, rest)?;
         let happened = self.world.past().len();
         if happened > self.explained {
-            if let Some(failure) = explained(&self.world, ways(&self.world)) {
-                return Some(failure);
-            }
+            explained(&self.world)?;
             self.explained = happened;
         }
         if rest {
-            return pages_stand(&self.world, ways(&self.world));
+            pages_stand(&self.world)?;
         }
-        None
+        Ok(())
     }
 
     // By what a run at rest is known again: whatever can follow depends on nothing else.
     pub fn digest(&self, heap: Global) -> Result<Digest, AllocError> {
-        let mut digest = Digest::START
-            .word(self.at as u64)
+        let digest = Digest::START
+            .word(self.left.len() as u64)
             .word(u64::from(self.powers))
             .word(u64::from(self.deaths));
-        for side in [Side::First, Side::Second] {
-            digest = self.digest_disk(digest, side);
-        }
-        let books = books(
-            heap,
-            self.world.pages(),
-            self.world.past(),
-            ways(&self.world),
-        )?;
-        for book in books {
-            digest = digest.join(book);
-        }
-        Ok(digest)
+        let digest = Side::BOTH
+            .iter()
+            .fold(digest, |digest, side| self.digest_disk(digest, *side));
+        let books = books(heap, History::of(&self.world))?;
+        Ok(books.iter().fold(digest, |digest, book| digest.join(*book)))
     }
 
     // A dead disk is never looked at again.
@@ -132,19 +160,37 @@ impl Run {
     // Whether power may go now that the script doesn't have.
     pub fn may_cut(&self) -> bool {
         match self.phase {
-            Phase::Recovery { extra: true } => self.powers > 0,
+            Phase::Unforeseen => self.powers > 0,
             Phase::Down => false,
-            _ => self.powers == 3,
+            Phase::Rest | Phase::Call | Phase::Recovery => self.powers == POWERS,
         }
     }
 
     pub fn may_die(&self) -> bool {
-        let both = self.world.is_alive(Side::First) && self.world.is_alive(Side::Second);
-        self.deaths > 0 && both && !matches!(self.phase, Phase::Down)
+        self.deaths > 0 && both_live(&self.world) && self.phase != Phase::Down
+    }
+
+    // Goes past the command that is under way or next.
+    pub fn pass(&mut self)
+        ensures { self.new.left.now ≡ drop 1 self.old.left.now }
+    {
+        if let [_, rest @ ..] = self.left {
+            self.left = rest;
+        }
+    }
+
+    // Goes past commands that change nothing.
+    pub fn settle(&mut self) {
+        let idle = self
+            .left
+            .iter()
+            .take_while(|command| is_idle(command))
+            .count();
+        self.left = self.left.get(idle..).unwrap_or_default();
     }
 
     // Notes what strikes now: behind what is under way, or on a line of its own.
-    fn note(&mut self, moment: Moment, rest: Trail) -> Result<(), AllocError> {
+    fn note(&mut self, moment: Moment, rest: Trail<'a>) -> Result<(), AllocError> {
         let item = if self.is_at_rest() {
             rest
         } else {
@@ -154,81 +200,71 @@ impl Run {
         Ok(())
     }
 
-    // Power goes, and recovery begins at once. False: it was refused.
-    pub fn cut(&mut self) -> Result<bool, AllocError> {
+    // Power goes, and recovery begins at once.
+    pub fn cut(&mut self) -> Result<(), Halt> {
         let after = self.world.done();
         self.note(Moment::Power { after }, Trail::Power)?;
         self.trail.push(Trail::Recover)?;
-        if !self.world.cut() {
-            return Ok(false);
+        self.world.cut()?;
+        if matches!(self.phase, Phase::Call | Phase::Recovery | Phase::Down) {
+            self.pass();
         }
-        if !self.is_at_rest() && !matches!(self.phase, Phase::Recovery { extra: true }) {
-            self.at = self.at.saturating_add(1);
-        }
-        self.phase = Phase::Recovery { extra: true };
+        self.phase = Phase::Unforeseen;
         self.powers = self.powers.saturating_sub(1);
         self.struck = true;
-        self.seen = false;
-        Ok(true)
+        Ok(())
     }
 
-    pub fn die(&mut self, side: Side) -> Result<bool, AllocError> {
+    pub fn die(&mut self, side: Side) -> Result<(), Halt> {
         let after = self.world.done();
         self.note(Moment::Death { side, after }, Trail::Death(side))?;
         self.deaths = self.deaths.saturating_sub(1);
-        self.seen = false;
-        Ok(self.world.kill(side))
+        self.world.kill(side)?;
+        Ok(())
     }
 
     // The call that is next, if one is.
-    pub fn next_call(&self, script: &Script) -> Option<Asked> {
-        if !self.is_at_rest() {
-            return None;
-        }
-        match script.commands.get(self.at) {
-            Some(command) => match command.order {
-                Order::Call(asked) => Some(asked),
-                _ => None,
-            },
-            None => None,
+    pub fn next_call(&self) -> Option<Asked> {
+        match (self.phase, self.left.first()?.order) {
+            (Phase::Rest, Order::Call(asked)) => Some(asked),
+            _ => None,
         }
     }
 
     // Whether something is about to be read: a call is next, or recovery has written nothing yet.
-    pub fn may_die_reading(&self, script: &Script) -> bool {
-        let reads = self.next_call(script).is_some()
-            || (self.is_in_recovery() && self.world.done() == 0);
+    pub fn may_die_reading(&self) -> bool {
+        let recovers = matches!(self.phase, Phase::Recovery | Phase::Unforeseen);
+        let reads = self.next_call().is_some() || (recovers && self.world.done() == 0);
         reads && self.may_die()
     }
 
-    // What is next begins, and a disk dies at one of its reads there. False: it has fewer reads.
-    pub fn die_reading(
-        &mut self,
-        script: &Script,
-        side: Side,
-        read: u64,
-    ) -> Result<bool, AllocError> {
+    // What is next begins, and a disk dies at one of its reads there. Tells whether it does: there may be
+    // fewer reads.
+    pub fn die_reading(&mut self, side: Side, read: u64) -> Result<bool, Halt> {
         self.world.set_left(side, read.saturating_sub(1));
-        let begun = match self.next_call(script) {
-            Some(asked) => self.begin(&asked)?,
-            None => self.world.cut(),
+        let begun = match self.next_call() {
+            Some(asked) => self.begin(&asked),
+            None => self.world.cut().map_err(Halt::from),
         };
-        if !begun || self.world.is_alive(side) {
-            return Ok(false);
+        match begun {
+            Ok(()) if !self.world.is_alive(side) => {}
+            Ok(()) | Err(Halt::Failed(_)) => return Ok(false),
+            Err(Halt::Memory) => return Err(Halt::Memory),
         }
         self.trail
             .push(Trail::Struck(Moment::Reading { side, read }))?;
         self.deaths = self.deaths.saturating_sub(1);
-        self.seen = false;
         Ok(true)
     }
 
     // The call that is next begins.
-    pub fn begin(&mut self, asked: &Asked) -> Result<bool, AllocError> {
-        self.trail.push(Trail::Command(self.at))?;
+    pub fn begin(&mut self, asked: &Asked) -> Result<(), Halt> {
+        if let [command, ..] = self.left {
+            self.trail.push(Trail::Command(command))?;
+        }
         self.phase = Phase::Call;
         self.struck = false;
-        self.seen = false;
-        Ok(self.world.begin(asked))
+        self.world.begin(asked)?;
+        Ok(())
     }
 }

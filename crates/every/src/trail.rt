@@ -1,13 +1,14 @@
 // How a world was reached: the lines of a script that leads there again.
 use device::mirror::Side;
-use script::order::{Moment, Script, side_name};
+use script::order::{Command, Moment};
 use std::alloc::{AllocError, Global};
+use std::fmt;
 use std::fmt::Write;
 
 #[derive(Clone, Copy)]
-pub enum Trail {
-    // A command of the script, by its place.
-    Command(usize),
+pub enum Trail<'a> {
+    // A command of the script.
+    Command(&'a Command),
     Recover,
     // What struck while the command or the recovery before it was under way.
     Struck(Moment),
@@ -17,35 +18,26 @@ pub enum Trail {
 }
 
 // One item, on a line of its own or behind the one before it.
-fn push_item(text: &mut String, script: &Script, item: Trail) -> Result<(), AllocError> {
-    let written = match item {
-        Trail::Command(at) => match script.commands.get(at) {
-            Some(command) => {
+impl fmt::Display for Trail<'_> {
+    fn fmt<W: fmt::Write>(&self, f: &mut fmt::Formatter<W>) -> fmt::Result {
+        match *self {
+            Trail::Command(command) => {
                 let words = command.text.as_str();
-                write!(text, "\n{words}")
+                write!(f, "\n{words}")
             }
-            None => Ok(()),
-        },
-        Trail::Recover => write!(text, "\nrecover"),
-        Trail::Struck(moment) => write!(text, " {moment}"),
-        Trail::Power => write!(text, "\npower"),
-        Trail::Death(side) => {
-            let name = side_name(side);
-            write!(text, "\ndie {name}")
+            Trail::Recover => write!(f, "\nrecover"),
+            Trail::Struck(moment) => write!(f, " {moment}"),
+            Trail::Power => write!(f, "\npower"),
+            Trail::Death(side) => write!(f, "\ndie {side}"),
         }
-    };
-    match written {
-        Ok(()) => Ok(()),
-        Err(_) => Err(AllocError),
     }
 }
 
-// The script that leads there.
-pub fn script_of(heap: Global, script: &Script, trail: &[Trail]) -> Result<String, AllocError> {
-    let pages = script.pages;
+// The script that leads there, for so many pages.
+pub fn script_of(heap: Global, pages: u32, trail: &[Trail<'_>]) -> Result<String, AllocError> {
     let mut text = format!(in heap; "pages {pages}")?;
     for item in trail {
-        push_item(&mut text, script, *item)?;
+        write!(text, "{item}")?;
     }
     text.push('\n')?;
     Ok(text)

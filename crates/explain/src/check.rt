@@ -3,12 +3,28 @@
 // Each answer that was told has to be the book's. Of a call that power cut all happened or nothing: there the
 // book has a choice, and all choices are tried. Only a close leaves something to choose, since whatever else
 // a call changes goes with power.
+ghost use Rattle.std.specs.Prelude.{◌≡◌, ◌≤◌, ◌^◌, length, IfSome};
+
 use crate::book::Book;
+use wire::call;
+use wire::call::Call;
 use world::history::{Asked, Event};
+use world::world::World;
+
+// What is known of a world from the outside: how many pages there are, and what happened, the first first.
+#[derive(Clone, Copy)]
+pub struct History<'a> {
+    pub pages: u32,
+    pub past: &'a [Event],
+}
+
+// What happened is not what the book says.
+#[derive(Clone, Copy)]
+struct Unexplained;
 
 // Whether the bytes are a close.
 fn is_close(asked: &Asked) -> bool {
-    asked.as_slice() == b"\x02".as_slice()
+    matches!(call::decode(asked.as_slice()), Ok(Call::Close))
 }
 
 // Whether what happened leaves a choice to the book.
@@ -19,12 +35,14 @@ fn is_choice(event: &Event) -> bool {
     }
 }
 
-// The book after what happened; late: a call that power cut happened. False: the book doesn't explain it.
-fn go_on(book: &mut Book, event: &Event, late: bool) -> bool {
+// The book after what happened; late: a call that power cut happened.
+fn go_on(book: &mut Book, event: &Event, late: bool) -> Result<(), Unexplained>
+    ensures { book.new.count ≡ book.old.count }
+{
     match event {
         Event::Answered(asked, told) => {
             if !book.answers(asked, told) {
-                return false;
+                return Err(Unexplained);
             }
             book.take(asked);
         }
@@ -36,34 +54,48 @@ fn go_on(book: &mut Book, event: &Event, late: bool) -> bool {
         }
         Event::Power => book.lose_waiting(),
     }
-    true
+    Ok(())
 }
 
-// The book that explains what happened by these choices: the lowest bit is the first choice, and says that
-// the close happened.
-pub fn book_by(pages: u32, past: &[Event], choices: u64) -> Option<Book> {
-    let Some(mut book) = Book::new(pages) else {
-        return None;
-    };
-    let mut left = choices;
-    for event in past {
-        if !go_on(&mut book, event, left % 2 == 1) {
-            return None;
-        }
-        if is_choice(event) {
-            left = left / 2;
+impl<'a> History<'a> {
+    // What happened in a world.
+    pub fn of(world: &'a World) -> History<'a>
+        ensures { result.past.now ≡ world.now.past.items }
+    {
+        History {
+            pages: world.pages(),
+            past: world.past(),
         }
     }
-    Some(book)
-}
 
-// How many choices there are.
-pub fn choices(past: &[Event]) -> u32 {
-    let mut n: u32 = 0;
-    for event in past {
-        if is_choice(event) {
-            n = n.saturating_add(1);
-        }
+    // How many choices there are.
+    pub fn choices(&self) -> usize
+        ensures { result ≤ length self.now.past.now }
+    {
+        self.past.iter().filter(|event| is_choice(event)).count()
     }
-    n
+
+    // In how many ways the choices can be made; of more than sixteen, the later ones always fall the same way.
+    pub fn ways(&self) -> u64
+        ensures some { 1 ≤ result }
+        ensures bound { result ≤ 2 ^ 16 }
+    {
+        1 << self.choices().min(16)
+    }
+
+    // The book that explains what happened by these choices: the lowest bit is the first choice, and says
+    // that the close happened.
+    pub fn book(&self, choices: u64) -> Option<Book>
+        ensures { IfSome result (λ book. book.count ≡ self.now.pages) }
+    {
+        let mut book = Book::new(self.pages)?;
+        let mut left = choices;
+        for event in self.past {
+            go_on(&mut book, event, left % 2 == 1).ok()?;
+            if is_choice(event) {
+                left /= 2;
+            }
+        }
+        Some(book)
+    }
 }

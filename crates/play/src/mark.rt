@@ -1,12 +1,12 @@
 // What is seen of a play: a mark for each thing that happens, in order.
 use device::mirror::Side;
-use engine::call::Reply;
 use engine::write::Write;
-use wire::answer::Refusal;
+use std::fmt;
+use wire::answer::{Answer, Refusal};
 use world::history::Told;
 
 // A page, as far as a line can show it.
-#[derive(Clone, Copy, PartialEq)]
+#[derive(Clone, Copy, PartialEq, Eq, Debug)]
 pub enum Look {
     Empty,
     // Filled with one byte.
@@ -15,71 +15,116 @@ pub enum Look {
     Mixed(u32),
 }
 
+// Where the sum of no bytes begins, and what it is multiplied by at each byte (FNV-1a).
+const BASIS: u32 = 2166136261;
+
+const PRIME: u32 = 16777619;
+
 // Sums the bytes so that each counts at its place.
 fn sum_of(page: &[u8]) -> u32 {
-    let mut sum: u32 = 2166136261;
-    for byte in page {
-        sum = (sum ^ u32::from(*byte)).wrapping_mul(16777619);
-    }
-    sum
-}
-
-fn all_are(page: &[u8], byte: u8) -> bool {
-    let mut same = true;
-    for each in page {
-        same = same & (*each == byte);
-    }
-    same
+    page.iter().fold(
+        BASIS,
+        |sum, byte| (sum ^ u32::from(*byte)).wrapping_mul(PRIME),
+    )
 }
 
 impl Look {
     pub fn of(page: &[u8]) -> Look {
-        if octets::is_empty(page) {
-            return Look::Empty;
+        match page {
+            _ if octets::is_empty(page) => Look::Empty,
+            [first, rest @ ..] if rest.iter().all(|byte| byte == first) => Look::Filled(*first),
+            _ => Look::Mixed(sum_of(page)),
         }
-        let [byte, ..] = page else {
-            return Look::Empty;
-        };
-        if all_are(page, *byte) {
-            return Look::Filled(*byte);
+    }
+}
+
+impl fmt::Display for Look {
+    fn fmt<W: fmt::Write>(&self, f: &mut fmt::Formatter<W>) -> fmt::Result {
+        match *self {
+            Look::Empty => f.write_str("empty"),
+            Look::Filled(byte) if byte.is_ascii_graphic() => f.write_char(char::from(byte)),
+            Look::Filled(byte) => write!(f, "all {byte:02x}"),
+            Look::Mixed(sum) => write!(f, "mixed {sum:08x}"),
         }
-        Look::Mixed(sum_of(page))
     }
 }
 
 // An answer, as far as a line can show it.
-#[derive(Clone, Copy, PartialEq)]
-pub enum Answer {
-    Refused { number: u8, place: u32 },
-    Done,
-    Page(Look),
-    Number(u32),
+pub type Seen = Answer<Look>;
+
+// What is seen of an answer.
+pub fn seen(told: &Told) -> Seen {
+    let look = match told {
+        Answer::Page(page) => Look::of(page),
+        _ => Look::Empty,
+    };
+    told.with_page(look)
 }
 
-fn refused(refusal: Refusal) -> Answer {
-    Answer::Refused {
-        number: refusal.number(),
-        place: refusal.place(),
-    }
-}
+// So many writes. The register's program has words of its own for them: the two have no crate in common that
+// prints.
+#[derive(Clone, Copy, PartialEq, Eq, Debug)]
+pub struct Writes(pub u64);
 
-impl Answer {
-    pub fn of(told: &Told) -> Answer {
-        match told.reply {
-            Reply::Refused(refusal) => refused(refusal),
-            Reply::Done => Answer::Done,
-            Reply::Page => Answer::Page(Look::of(&told.page)),
-            Reply::Number(n) => Answer::Number(n),
+impl fmt::Display for Writes {
+    fn fmt<W: fmt::Write>(&self, f: &mut fmt::Formatter<W>) -> fmt::Result {
+        match self.0 {
+            1 => f.write_str("1 write"),
+            n => write!(f, "{n} writes"),
         }
     }
 }
 
-#[derive(Clone, Copy)]
+// What a call was answered, and by how many writes.
+#[derive(Clone, Copy, PartialEq, Eq, Debug)]
+pub struct Answered {
+    pub answer: Seen,
+    pub writes: Writes,
+}
+
+// Why a call is refused: the number, and a word or two.
+fn show_refusal<W: fmt::Write>(f: &mut fmt::Formatter<W>, refusal: Refusal) -> fmt::Result {
+    let number = refusal.number();
+    write!(f, "refused {number}")?;
+    match refusal {
+        Refusal::NotACall { place } => write!(f, " at {place}, no call"),
+        Refusal::Unfit => f.write_str(", unfit"),
+        Refusal::NoSuchPage => f.write_str(", no such page"),
+        Refusal::LogFull => f.write_str(", log full"),
+    }
+}
+
+impl fmt::Display for Answered {
+    fn fmt<W: fmt::Write>(&self, f: &mut fmt::Formatter<W>) -> fmt::Result {
+        match self.answer {
+            Answer::Refused(refusal) => show_refusal(f, refusal)?,
+            Answer::Done => f.write_str("done")?,
+            Answer::Page(look) => write!(f, "page {look}")?,
+            Answer::Number(n) => write!(f, "number {n}")?,
+        }
+        let writes = self.writes;
+        write!(f, "; {writes}")
+    }
+}
+
+// Calls that were answered alike, one after the other.
+#[derive(Clone, Copy, PartialEq, Eq, Debug)]
+pub struct Alike {
+    pub times: u32,
+    pub each: Answered,
+}
+
+impl fmt::Display for Alike {
+    fn fmt<W: fmt::Write>(&self, f: &mut fmt::Formatter<W>) -> fmt::Result {
+        let Alike { times, each } = self;
+        write!(f, "{times} times {each} each")
+    }
+}
+
+#[derive(Clone, Copy, PartialEq, Eq, Debug)]
 pub enum Mark {
-    // Two new disks were made, by so many writes.
-    Made {
-        writes: u64,
-    },
+    // Two new disks were made.
+    Made(Writes),
     // A command of the script begins, by its place among them.
     Command(usize),
     // A write was done, by its number in the call or recovery. To a dead disk nothing was written.
@@ -88,27 +133,17 @@ pub enum Mark {
         write: Write,
         alive: bool,
     },
-    Answered {
-        answer: Answer,
-        writes: u64,
-    },
-    // A call was answered alike so many times, by so many writes each.
-    Repeated {
-        times: u32,
-        answer: Answer,
-        writes: u64,
-    },
+    Answered(Answered),
+    Repeated(Alike),
     // Power went when so many of the writes of a call or recovery were done.
     Cut {
         done: u64,
-        count: u64,
+        count: Writes,
     },
     // Power went at rest.
     Power,
     Died(Side),
-    Recovered {
-        writes: u64,
-    },
+    Recovered(Writes),
     // Bytes were put into a block by no register.
     Set(u64),
 }

@@ -3,12 +3,12 @@ ghost use Rattle.std.specs.Prelude.{◌≡◌, true, []};
 ghost use Rattle.engine.specs.Living.{Explained};
 ghost use Rattle.world.specs.Means.{past_of};
 
-use crate::mark::{Answer, Mark};
+use crate::mark::{Alike, Answered, Mark, Seen, Writes, seen};
 use device::mirror::Side;
 use script::order::{Command, Fault, Moment, Order, Script, Wrong};
 use std::alloc::Global;
 use world::history::Asked;
-use world::world::{Unmade, World};
+use world::world::World;
 
 #[derive(Drop)]
 pub struct Play {
@@ -21,63 +21,50 @@ pub struct Play {
 // After how many writes a moment comes; None for one that comes before, while all that is needed is read.
 fn after(moment: Moment) -> Option<u64> {
     match moment {
-        Moment::Power { after } => Some(after),
-        Moment::Death { after, .. } => Some(after),
+        Moment::Power { after } | Moment::Death { after, .. } => Some(after),
         Moment::Reading { .. } => None,
     }
 }
 
 // Whether a moment comes after the i-th: after more writes, or after as many and later in the line.
 fn is_followed(moments: &[Moment], i: usize, at: u64) -> bool {
-    for j in 0..moments.len() {
-        let Some(other) = after(moments[j]) else {
-            continue;
-        };
-        if other > at || (other == at && j > i) {
-            return true;
-        }
-    }
-    false
+    moments.iter().enumerate().any(|(j, other)| after(*other).is_some_and(|after| (after, j)
+        > (at, i)))
 }
 
 // Whether the moments of a line can come: none after the last write, and none after power.
 fn can_come(moments: &[Moment], count: u64) -> Result<(), Wrong> {
-    for i in 0..moments.len() {
-        let Some(at) = after(moments[i]) else {
+    for (i, moment) in moments.iter().enumerate() {
+        let Some(at) = after(*moment) else {
             continue;
         };
         if at > count {
             return Err(Wrong::MomentLate);
         }
-        if matches!(moments[i], Moment::Power { .. }) && is_followed(moments, i, at) {
+        if matches!(moment, Moment::Power { .. }) && is_followed(moments, i, at) {
             return Err(Wrong::MomentAfterPower);
         }
     }
     Ok(())
 }
 
-// Calls that were answered alike, one after the other.
-#[derive(Clone, Copy)]
-struct Alike {
-    times: u32,
-    answer: Answer,
-    writes: u64,
+// Whether a call or a recovery goes on.
+#[derive(Clone, Copy, PartialEq, Eq, Debug)]
+enum Power {
+    Stays,
+    Went,
 }
 
 impl Play {
     pub fn new(heap: Global, pages: u32) -> Result<Play, Wrong> {
-        let world = match World::new(heap, pages) {
-            Ok(world) => world,
-            Err(Unmade::Pages) => return Err(Wrong::PagesOutside),
-            Err(Unmade::Memory) => return Err(Wrong::Memory),
-        };
-        let writes = world.count();
+        let world = World::new(heap, pages)?;
+        let writes = Writes(world.count());
         let mut play = Play {
             world,
             loud: true,
             marks: Vec::new(heap),
         };
-        play.mark(Mark::Made { writes })?;
+        play.mark(Mark::Made(writes))?;
         Ok(play)
     }
 
@@ -100,13 +87,9 @@ impl Play {
 
     // One write of what is under way.
     fn write(&mut self) -> Result<(), Wrong> {
-        let Some(write) = self.world.upcoming() else {
-            return Err(Wrong::NoDisk);
-        };
+        let write = self.world.upcoming().ok_or(Wrong::NoDisk)?;
         let alive = self.world.is_alive(write.disk);
-        if !self.world.write_next() {
-            return Err(Wrong::NoDisk);
-        }
+        self.world.write_next()?;
         if !self.loud {
             return Ok(());
         }
@@ -122,21 +105,17 @@ impl Play {
         if !self.world.is_alive(side) {
             return Err(Wrong::DeadBefore);
         }
-        if !self.world.kill(side) {
-            return Err(Wrong::LastDisk);
-        }
+        self.world.kill(side).map_err(|_| Wrong::LastDisk)?;
         self.mark(Mark::Died(side))
     }
 
     fn cut(&mut self, mark: Mark) -> Result<(), Wrong> {
-        if !self.world.cut() {
-            return Err(Wrong::Memory);
-        }
+        self.world.cut()?;
         self.mark(mark)
     }
 
-    // What strikes after so many writes. True: power went.
-    fn struck(&mut self, moments: &[Moment], done: u64, count: u64) -> Result<bool, Wrong> {
+    // What strikes after so many writes.
+    fn strike(&mut self, moments: &[Moment], done: u64, count: u64) -> Result<Power, Wrong> {
         for moment in moments {
             if after(*moment) != Some(done) {
                 continue;
@@ -144,13 +123,14 @@ impl Play {
             match *moment {
                 Moment::Death { side, .. } => self.die(side)?,
                 Moment::Power { .. } => {
+                    let count = Writes(count);
                     self.cut(Mark::Cut { done, count })?;
-                    return Ok(true);
+                    return Ok(Power::Went);
                 }
                 Moment::Reading { .. } => {}
             }
         }
-        Ok(false)
+        Ok(Power::Stays)
     }
 
     // Disks that die while they are read are told so before.
@@ -181,85 +161,64 @@ impl Play {
         Ok(())
     }
 
-    // All the writes of what is under way, with what strikes before, between and after them. False: power
-    // went.
-    fn writes(&mut self, moments: &[Moment], count: u64) -> Result<bool, Wrong> {
+    // All the writes of what is under way, with what strikes before, between and after them.
+    fn writes(&mut self, moments: &[Moment], count: u64) -> Result<Power, Wrong> {
         can_come(moments, count)?;
         for done in 0..count {
-            if self.struck(moments, done, count)? {
-                return Ok(false);
+            if self.strike(moments, done, count)? == Power::Went {
+                return Ok(Power::Went);
             }
             self.write()?;
         }
-        Ok(!self.struck(moments, count, count)?)
+        self.strike(moments, count, count)
     }
 
     fn begin(&mut self, asked: &Asked) -> Result<u64, Wrong> {
-        if !self.world.is_up() {
-            return Err(Wrong::PowerGone);
-        }
-        if !self.world.begin(asked) {
-            return Err(Wrong::NoDisk);
-        }
+        self.world.begin(asked)?;
         Ok(self.world.count())
     }
 
-    fn tell(&mut self) -> Result<Answer, Wrong> {
-        let Some(under) = self.world.under() else {
-            return Err(Wrong::NoDisk);
-        };
-        if !self.world.tell() {
-            return Err(Wrong::Memory);
-        }
-        Ok(Answer::of(&under.answer))
+    fn tell(&mut self) -> Result<Seen, Wrong> {
+        let under = self.world.under().ok_or(Wrong::NoDisk)?;
+        self.world.tell()?;
+        Ok(seen(&under.answer))
     }
 
     fn call(&mut self, asked: &Asked, moments: &[Moment]) -> Result<(), Wrong> {
         self.before_reading(moments)?;
         let count = self.begin(asked)?;
         self.after_reading(moments)?;
-        if !self.writes(moments, count)? {
+        if self.writes(moments, count)? == Power::Went {
             return Ok(());
         }
         let answer = self.tell()?;
-        self.mark(Mark::Answered {
-            answer,
-            writes: count,
-        })
+        let writes = Writes(count);
+        self.mark(Mark::Answered(Answered { answer, writes }))
     }
 
-    fn mark_alike(&mut self, alike: Alike) -> Result<(), Wrong> {
-        self.mark(Mark::Repeated {
-            times: alike.times,
-            answer: alike.answer,
-            writes: alike.writes,
-        })
+    // A call at which nothing strikes.
+    fn whole(&mut self, asked: &Asked) -> Result<Answered, Wrong> {
+        let count = self.begin(asked)?;
+        for _ in 0..count {
+            self.write()?;
+        }
+        let answer = self.tell()?;
+        let writes = Writes(count);
+        Ok(Answered { answer, writes })
     }
 
     // The same call once more; one that is answered otherwise begins a new line.
     fn again(&mut self, asked: &Asked, before: Option<Alike>) -> Result<Alike, Wrong> {
-        let writes = self.begin(asked)?;
-        for _ in 0..writes {
-            self.write()?;
-        }
-        let answer = self.tell()?;
-        let once = Alike {
-            times: 1,
-            answer,
-            writes,
+        let each = self.whole(asked)?;
+        let times = match before {
+            Some(before) if before.each == each => before.times.saturating_add(1),
+            Some(before) => {
+                self.mark(Mark::Repeated(before))?;
+                1
+            }
+            None => 1,
         };
-        let Some(alike) = before else {
-            return Ok(once);
-        };
-        if alike.answer == answer && alike.writes == writes {
-            return Ok(Alike {
-                times: alike.times.saturating_add(1),
-                answer,
-                writes,
-            });
-        }
-        self.mark_alike(alike)?;
-        Ok(once)
+        Ok(Alike { times, each })
     }
 
     // The same call so many times.
@@ -272,7 +231,7 @@ impl Play {
         }
         self.loud = loud;
         match alike {
-            Some(alike) => self.mark_alike(alike),
+            Some(alike) => self.mark(Mark::Repeated(alike)),
             None => Ok(()),
         }
     }
@@ -283,27 +242,18 @@ impl Play {
             return Err(Wrong::PowerThere);
         }
         self.before_reading(moments)?;
-        if !self.world.cut() {
-            return Err(Wrong::NoDisk);
-        }
+        self.world.cut()?;
         self.after_reading(moments)?;
         let count = self.world.count();
-        if !self.writes(moments, count)? {
+        if self.writes(moments, count)? == Power::Went {
             return Ok(());
         }
-        if !self.world.recovered() {
-            return Err(Wrong::NoDisk);
-        }
-        self.mark(Mark::Recovered { writes: count })
+        self.world.recovered()?;
+        self.mark(Mark::Recovered(Writes(count)))
     }
 
     fn set(&mut self, block: u64, bytes: &Asked) -> Result<(), Wrong> {
-        if !self.world.is_up() {
-            return Err(Wrong::PowerGone);
-        }
-        if !self.world.overwrite(block, bytes.as_slice()) {
-            return Err(Wrong::SetOutside);
-        }
+        self.world.overwrite(block, bytes.as_slice())?;
         self.mark(Mark::Set(block))
     }
 
@@ -342,19 +292,10 @@ fn play_one(play: &mut Play, command: &Command, at: usize) -> Result<(), Wrong> 
 
 // Plays a whole script. A line that can't be played stops it.
 pub fn play_script(heap: Global, script: &Script) -> Result<Play, Fault> {
-    let mut play = match Play::new(heap, script.pages) {
-        Ok(play) => play,
-        Err(wrong) => return Err(Fault { line: 1, wrong }),
-    };
-    let commands = script.commands.as_slice();
-    for at in 0..commands.len() {
-        let command = &commands[at];
-        if let Err(wrong) = play_one(&mut play, command, at) {
-            return Err(Fault {
-                line: command.line,
-                wrong,
-            });
-        }
+    let mut play = Play::new(heap, script.pages).map_err(|wrong| Fault { line: 1, wrong })?;
+    for (at, command) in script.commands.iter().enumerate() {
+        let line = command.line;
+        play_one(&mut play, command, at).map_err(|wrong| Fault { line, wrong })?;
     }
     Ok(play)
 }

@@ -1,92 +1,69 @@
 // Numbers and bytes as a script writes them.
-use std::alloc::AllocError;
+ghost use Rattle.std.specs.Prelude.{◌≡◌, ◌≢◌, ◌⊎◌, Ok, Err, take, slice_index, MatchOption, IsSome, vec_len};
+
+use crate::order::Wrong;
+use std::str::FromStr;
 
 // How often a byte is repeated at most; no call is so long.
-const MOST_TIMES: u64 = 10000;
+const MOST_TIMES: usize = 10000;
 
-// A number in decimal digits; None for any other word.
-pub fn number(word: &str) -> Option<u64> {
-    if word.is_empty() {
+// A number in decimal digits; None for any other word, and for a number that is too large. A sign, which
+// `parse` takes, is no digit.
+pub fn number<N: FromStr>(word: &str) -> Option<N>
+where
+    N::Err: Drop,
+    ensures value { MatchOption result
+        ((slice_index word.now 0 ≡ 43) ⊎ ((e : N.Err) × N.from_str_gives word.now (Err e)))
+        (λ n. N.from_str_gives word.now (Ok n)) }
+    ensures unsigned { IsSome result → slice_index word.now 0 ≢ 43 }
+{
+    if word.starts_with('+') {
         return None;
     }
-    let mut n: u64 = 0;
-    for digit in word.bytes() {
-        if !digit.is_ascii_digit() {
-            return None;
-        }
-        n = n.checked_mul(10)?.checked_add(u64::from(digit - b'0'))?;
-    }
-    Some(n)
+    word.parse().ok()
 }
 
-// A number that fits four bytes.
-pub fn number_u32(word: &str) -> Option<u32> {
-    let Some(n) = number(word) else {
-        return None;
+// The byte that two hexadecimal digits are.
+fn byte([high, low]: [u8; 2]) -> Option<u8> {
+    let high = char::from(high).to_digit(16)?;
+    let low = char::from(low).to_digit(16)?;
+    Some((16 * high + low) as u8)
+}
+
+// Two digits for each byte, put behind what is there.
+fn push_pairs(word: &str, out: &mut Vec<u8>) -> Result<(), Wrong>
+    ensures { take (vec_len out.old) out.new.items ≡ out.old.items }
+{
+    let (pairs, []) = word.as_bytes().as_chunks::<2>() else {
+        return Err(Wrong::Bytes);
     };
-    if n > u32::MAX as u64 {
-        return None;
+    for pair in pairs {
+        out.push(byte(*pair).ok_or(Wrong::Bytes)?)?;
     }
-    Some(n as u32)
-}
-
-fn hex_digit(digit: u8) -> Option<u8> {
-    match digit {
-        b'0'..=b'9' => Some(digit - b'0'),
-        b'a'..=b'f' => Some(digit - b'a' + 10),
-        b'A'..=b'F' => Some(digit - b'A' + 10),
-        _ => None,
-    }
-}
-
-fn hex_byte(high: u8, low: u8) -> Option<u8> {
-    let Some(high) = hex_digit(high) else {
-        return None;
-    };
-    let Some(low) = hex_digit(low) else {
-        return None;
-    };
-    Some(high.wrapping_mul(16).wrapping_add(low))
-}
-
-// Two digits for each byte, put behind what is there. False: the word is something else.
-fn push_pairs(word: &[u8], out: &mut Vec<u8>) -> Result<bool, AllocError> {
-    if word.len() % 2 != 0 {
-        return Ok(false);
-    }
-    for i in 0..word.len() / 2 {
-        let Some(byte) = hex_byte(word[2 * i], word[2 * i + 1]) else {
-            return Ok(false);
-        };
-        out.push(byte)?;
-    }
-    Ok(true)
+    Ok(())
 }
 
 // A byte so many times, as `41*1024`.
-fn push_many(pair: &[u8], times: &str, out: &mut Vec<u8>) -> Result<bool, AllocError> {
-    let [high, low] = pair else {
-        return Ok(false);
+fn push_many(pair: &str, times: &str, out: &mut Vec<u8>) -> Result<(), Wrong>
+    ensures { take (vec_len out.old) out.new.items ≡ out.old.items }
+{
+    let [high, low] = pair.as_bytes() else {
+        return Err(Wrong::Bytes);
     };
-    let Some(byte) = hex_byte(*high, *low) else {
-        return Ok(false);
-    };
-    let Some(n) = number(times) else {
-        return Ok(false);
-    };
-    if n > MOST_TIMES {
-        return Ok(false);
-    }
-    for _ in 0..n {
-        out.push(byte)?;
-    }
-    Ok(true)
+    let byte = byte([*high, *low]).ok_or(Wrong::Bytes)?;
+    let times = number::<usize>(times)
+        .filter(|n| *n <= MOST_TIMES)
+        .ok_or(Wrong::Bytes)?;
+    out.resize(out.len() + times, byte)?;
+    Ok(())
 }
 
-// A word of bytes, put behind what is there. False: the word is something else.
-pub fn push_bytes(word: &str, out: &mut Vec<u8>) -> Result<bool, AllocError> {
+// A word of bytes, put behind what is there.
+pub fn push_bytes(word: &str, out: &mut Vec<u8>) -> Result<(), Wrong>
+    ensures { take (vec_len out.old) out.new.items ≡ out.old.items }
+{
     match word.split_once('*') {
-        Some((pair, times)) => push_many(pair.as_bytes(), times, out),
-        None => push_pairs(word.as_bytes(), out),
+        Some((pair, times)) => push_many(pair, times, out),
+        None => push_pairs(word, out),
     }
 }

@@ -1,11 +1,13 @@
 // What a line of a script asks for.
 use device::mirror::Side;
 use std::alloc::{AllocError, AllocFailed};
+use std::error::Error;
 use std::fmt;
 use world::history::Asked;
+use world::world::{NotTaken, Unmade};
 
 // What strikes the disks while a call or recovery is under way.
-#[derive(Clone, Copy)]
+#[derive(Clone, Copy, PartialEq, Eq, Debug)]
 pub enum Moment {
     // Power goes after so many of its writes are done.
     Power { after: u64 },
@@ -48,7 +50,7 @@ pub struct Script {
 }
 
 // What is wrong with a line.
-#[derive(Clone, Copy)]
+#[derive(Clone, Copy, PartialEq, Eq, Debug)]
 pub enum Wrong {
     NoPages,
     PagesOutside,
@@ -77,9 +79,9 @@ pub enum Wrong {
     Memory,
 }
 
-impl Wrong {
-    fn text(self) -> &'static str {
-        match self {
+impl fmt::Display for Wrong {
+    fn fmt<W: fmt::Write>(&self, f: &mut fmt::Formatter<W>) -> fmt::Result {
+        f.write_str(match self {
             Wrong::NoPages => "a script begins with `pages` and a number",
             Wrong::PagesOutside => "there are 1 to 16 pages",
             Wrong::NoSuchLine => "there is no such line",
@@ -105,9 +107,11 @@ impl Wrong {
             Wrong::SetOutside => "there is no such block, or more bytes than a block has",
             Wrong::NoDisk => "no disk lives",
             Wrong::Memory => "there is not enough memory",
-        }
+        })
     }
 }
+
+impl Error for Wrong {}
 
 impl From<AllocError> for Wrong {
     fn from(_e: AllocError) -> Wrong {
@@ -121,8 +125,30 @@ impl<T: Drop> From<AllocFailed<T>> for Wrong {
     }
 }
 
-// Why a script can't be read: a line, and what is wrong with it.
-#[derive(Clone, Copy)]
+impl From<Unmade> for Wrong {
+    fn from(why: Unmade) -> Wrong {
+        match why {
+            Unmade::Pages => Wrong::PagesOutside,
+            Unmade::Memory => Wrong::Memory,
+        }
+    }
+}
+
+// What is wrong with a line at which the world doesn't take a step.
+impl From<NotTaken> for Wrong {
+    fn from(why: NotTaken) -> Wrong {
+        match why {
+            // A play's calls and recoveries are whole or cut, so that between its lines only power can be gone.
+            NotTaken::NotNow => Wrong::PowerGone,
+            NotTaken::Outside => Wrong::SetOutside,
+            NotTaken::NoDisk => Wrong::NoDisk,
+            NotTaken::Memory => Wrong::Memory,
+        }
+    }
+}
+
+// Why a script can't be read or played: a line, and what is wrong with it.
+#[derive(Clone, Copy, PartialEq, Eq, Debug)]
 pub struct Fault {
     pub line: usize,
     pub wrong: Wrong,
@@ -130,31 +156,19 @@ pub struct Fault {
 
 impl fmt::Display for Fault {
     fn fmt<W: fmt::Write>(&self, f: &mut fmt::Formatter<W>) -> fmt::Result {
-        let line = self.line;
-        let text = self.wrong.text();
-        write!(f, "line {line}: {text}")
+        let Fault { line, wrong } = self;
+        write!(f, "line {line}: {wrong}")
     }
 }
 
-pub fn side_name(side: Side) -> &'static str {
-    match side {
-        Side::First => "first",
-        Side::Second => "second",
-    }
-}
+impl Error for Fault {}
 
 impl fmt::Display for Moment {
     fn fmt<W: fmt::Write>(&self, f: &mut fmt::Formatter<W>) -> fmt::Result {
         match *self {
             Moment::Power { after } => write!(f, "power {after}"),
-            Moment::Death { side, after } => {
-                let name = side_name(side);
-                write!(f, "{name} {after}")
-            }
-            Moment::Reading { side, read } => {
-                let name = side_name(side);
-                write!(f, "{name}-read {read}")
-            }
+            Moment::Death { side, after } => write!(f, "{side} {after}"),
+            Moment::Reading { side, read } => write!(f, "{side}-read {read}"),
         }
     }
 }

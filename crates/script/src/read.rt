@@ -1,9 +1,10 @@
 // Reading a script.
 ghost use Rattle.std.specs.Prelude.{◌≤◌, length};
 
-use crate::hex::{number, number_u32, push_bytes};
+use crate::hex::{number, push_bytes};
 use crate::order::{Command, Fault, Moment, Order, Script, Wrong};
 use device::mirror::Side;
+use octets::BLOCK;
 use std::alloc::{AllocError, Global};
 use wire::call;
 use wire::call::Call;
@@ -15,33 +16,11 @@ const MOST_TIMES: u32 = 10000;
 
 // The words of a line, up to a comment.
 fn words_of<'a>(heap: Global, line: &'a str) -> Result<Vec<&'a str>, AllocError> {
-    let code = match line.split_once('#') {
-        Some((code, _)) => code,
-        None => line,
-    };
+    let code = line.split_once('#').map_or(line, |(code, _)| code);
     code.split_whitespace().collect(heap)
 }
 
-fn is_moment(word: &str) -> bool {
-    matches!(
-        word,
-        "power" | "first" | "second" | "first-read" | "second-read"
-    )
-}
-
-// Where the moments of a line begin: at the first word of theirs behind the line's own first word.
-fn moments_at(words: &[&str]) -> usize
-    ensures { result ≤ length words.now }
-{
-    for i in 1..words.len() {
-        if is_moment(words[i]) && words[i - 1] != "die" {
-            return i;
-        }
-    }
-    words.len()
-}
-
-// One moment, by its word and its number.
+// The moment of this word and this number.
 fn moment(word: &str, number: u64) -> Option<Moment> {
     match word {
         "power" => Some(Moment::Power { after: number }),
@@ -65,169 +44,110 @@ fn moment(word: &str, number: u64) -> Option<Moment> {
     }
 }
 
+// Whether the second of two words begins a moment: behind `die` it names the disk that dies.
+fn begins_moment(words: &[&str]) -> bool {
+    let [before, word] = words else {
+        return false;
+    };
+    moment(word, 0).is_some() && *before != "die"
+}
+
+// Where the moments of a line begin: at the first word of theirs behind the line's own first word.
+fn moments_at(words: &[&str]) -> usize
+    ensures { result ≤ length words.now }
+{
+    words
+        .windows(2)
+        .position(|pair| begins_moment(pair))
+        .map_or(words.len(), |before| before + 1)
+}
+
+// The moment that a word and a number are.
+fn moment_of([word, n]: [&str; 2]) -> Option<Moment> {
+    moment(word, number(n)?)
+}
+
 // Moments: each a word and a number.
 fn moments(heap: Global, words: &[&str]) -> Result<Vec<Moment>, Wrong> {
-    let mut moments = Vec::new(heap);
-    if words.len() % 2 != 0 {
+    let (pairs, []) = words.as_chunks::<2>() else {
         return Err(Wrong::Moment);
-    }
-    for i in 0..words.len() / 2 {
-        let Some(number) = number(words[2 * i + 1]) else {
-            return Err(Wrong::Moment);
-        };
-        let Some(moment) = moment(words[2 * i], number) else {
-            return Err(Wrong::Moment);
-        };
-        moments.push(moment)?;
-    }
-    Ok(moments)
-}
-
-// A call in words.
-#[derive(Clone, Copy)]
-enum Said {
-    Read(u32),
-    // A page filled with one byte.
-    Write(u32, u8),
-    Close,
-    Size,
-}
-
-impl Said {
-    fn filling(self) -> u8 {
-        match self {
-            Said::Write(_, byte) => byte,
-            _ => 0,
-        }
-    }
-
-    // The call; filled is the page that a write brings.
-    fn call<'a>(self, filled: &'a [u8]) -> Call<'a> {
-        match self {
-            Said::Read(page) => Call::Read { page },
-            Said::Write(page, _) => Call::Write {
-                page,
-                bytes: filled,
-            },
-            Said::Close => Call::Close,
-            Said::Size => Call::Size,
-        }
-    }
-
-    // Its bytes.
-    fn asked(self) -> Option<Asked> {
-        let filled = [self.filling(); 1024];
-        let mut bytes = [0; 1030];
-        let Some(n) = call::encode(self.call(&filled), &mut bytes) else {
-            return None;
-        };
-        if n > bytes.len() {
-            return None;
-        }
-        Asked::new(&bytes[0..n])
-    }
-}
-
-fn read_call(words: &[&str]) -> Option<Said> {
-    let [page] = words else {
-        return None;
     };
-    let Some(page) = number_u32(page) else {
-        return None;
-    };
-    Some(Said::Read(page))
+    pairs
+        .iter()
+        .map(|pair| moment_of(*pair).ok_or(Wrong::Moment))
+        .try_collect(heap)
+}
+
+// A call, as its bytes.
+fn asked(call: Call<'_>) -> Result<Asked, Wrong> {
+    let mut bytes = [0; Asked::MOST];
+    let n = call::encode(call, &mut bytes).ok_or(Wrong::TooLong)?;
+    Asked::new(&bytes[..n]).ok_or(Wrong::TooLong)
 }
 
 // The character that fills a page: one that is printed, and no space.
 fn filling(word: &str) -> Option<u8> {
-    let [byte] = word.as_bytes() else {
-        return None;
-    };
-    if byte.is_ascii_graphic() {
-        Some(*byte)
-    } else {
-        None
+    match word.as_bytes() {
+        [byte] if byte.is_ascii_graphic() => Some(*byte),
+        _ => None,
     }
 }
 
-fn write_call(words: &[&str]) -> Option<Said> {
-    let [page, filled] = words else {
-        return None;
-    };
-    let (Some(page), Some(byte)) = (number_u32(page), filling(filled)) else {
-        return None;
-    };
-    Some(Said::Write(page, byte))
+fn read_call(page: &str) -> Result<Asked, Wrong> {
+    let page = number(page).ok_or(Wrong::Read)?;
+    asked(Call::Read { page })
+}
+
+fn write_call(page: &str, filled: &str) -> Result<Asked, Wrong> {
+    let page = number(page).ok_or(Wrong::Write)?;
+    let bytes = [filling(filled).ok_or(Wrong::Write)?; BLOCK];
+    asked(Call::Write {
+        page,
+        bytes: &bytes,
+    })
 }
 
 // Bytes as they stand.
 fn raw(heap: Global, words: &[&str]) -> Result<Asked, Wrong> {
     let mut bytes = Vec::new(heap);
     for word in words {
-        if !push_bytes(word, &mut bytes)? {
-            return Err(Wrong::Bytes);
-        }
+        push_bytes(word, &mut bytes)?;
     }
-    match Asked::new(bytes.as_slice()) {
-        Some(asked) => Ok(asked),
-        None => Err(Wrong::TooLong),
-    }
-}
-
-fn alone(said: Said, words: &[&str]) -> Option<Said> {
-    let [] = words else {
-        return None;
-    };
-    Some(said)
+    Asked::new(bytes.as_slice()).ok_or(Wrong::TooLong)
 }
 
 // The call that words say.
 fn call_of(heap: Global, words: &[&str]) -> Result<Asked, Wrong> {
-    let [name, rest @ ..] = words else {
-        return Err(Wrong::NoSuchLine);
-    };
-    let (said, wrong) = match *name {
-        "read" => (read_call(rest), Wrong::Read),
-        "write" => (write_call(rest), Wrong::Write),
-        "close" => (alone(Said::Close, rest), Wrong::Close),
-        "size" => (alone(Said::Size, rest), Wrong::Size),
-        "bytes" => return raw(heap, rest),
-        _ => (None, Wrong::NoSuchLine),
-    };
-    let Some(said) = said else {
-        return Err(wrong);
-    };
-    match said.asked() {
-        Some(asked) => Ok(asked),
-        None => Err(Wrong::TooLong),
+    match words {
+        ["read", page] => read_call(page),
+        ["read", ..] => Err(Wrong::Read),
+        ["write", page, filled] => write_call(page, filled),
+        ["write", ..] => Err(Wrong::Write),
+        ["close"] => asked(Call::Close),
+        ["close", ..] => Err(Wrong::Close),
+        ["size"] => asked(Call::Size),
+        ["size", ..] => Err(Wrong::Size),
+        ["bytes", rest @ ..] => raw(heap, rest),
+        _ => Err(Wrong::NoSuchLine),
     }
 }
 
 fn times(heap: Global, words: &[&str]) -> Result<Order, Wrong> {
-    let [n, call @ ..] = words else {
-        return Err(Wrong::Times);
-    };
-    let Some(n) = number_u32(n) else {
-        return Err(Wrong::Times);
-    };
+    let (n, call) = words.split_first().ok_or(Wrong::Times)?;
+    let n = number(n).ok_or(Wrong::Times)?;
     if call.is_empty() {
         return Err(Wrong::Times);
     }
-    if n == 0 || n > MOST_TIMES {
+    if !(1..=MOST_TIMES).contains(&n) {
         return Err(Wrong::TimesOutside);
     }
     Ok(Order::Times(n, call_of(heap, call)?))
 }
 
 fn set(heap: Global, words: &[&str]) -> Result<Order, Wrong> {
-    let [block, bytes @ ..] = words else {
-        return Err(Wrong::Set);
-    };
-    let Some(block) = number(block) else {
-        return Err(Wrong::Set);
-    };
+    let (block, bytes) = words.split_first().ok_or(Wrong::Set)?;
     Ok(Order::Set {
-        block,
+        block: number(block).ok_or(Wrong::Set)?,
         bytes: raw(heap, bytes)?,
     })
 }
@@ -252,17 +172,6 @@ fn has_moments(order: Order) -> bool {
     matches!(order, Order::Call(_) | Order::Recover)
 }
 
-fn joined(heap: Global, words: &[&str]) -> Result<String, AllocError> {
-    let mut text = String::new(heap);
-    for word in words {
-        if !text.is_empty() {
-            text.push(' ')?;
-        }
-        text.push_str(word)?;
-    }
-    Ok(text)
-}
-
 fn command(heap: Global, line: usize, words: &[&str]) -> Result<Command, Wrong> {
     let (own, rest) = words.split_at(moments_at(words));
     let order = order(heap, own)?;
@@ -271,7 +180,7 @@ fn command(heap: Global, line: usize, words: &[&str]) -> Result<Command, Wrong> 
     }
     Ok(Command {
         line,
-        text: joined(heap, own)?,
+        text: own.join(heap, " ")?,
         order,
         moments: moments(heap, rest)?,
     })
@@ -282,49 +191,42 @@ fn pages_of(words: &[&str]) -> Result<u32, Wrong> {
     let ["pages", n] = words else {
         return Err(Wrong::NoPages);
     };
-    match number_u32(n) {
-        Some(n) if 1 <= n && n <= World::MOST_PAGES => Ok(n),
-        _ => Err(Wrong::PagesOutside),
-    }
+    number(n)
+        .filter(|n| (1..=World::MOST_PAGES).contains(n))
+        .ok_or(Wrong::PagesOutside)
 }
 
-// Takes one line into a script.
-fn take_line(heap: Global, script: &mut Script, line: usize, words: &[&str]) -> Result<(), Wrong> {
-    if words.is_empty() {
-        return Ok(());
-    }
-    if script.pages == 0 {
-        script.pages = pages_of(words)?;
-        return Ok(());
-    }
-    script.commands.push(command(heap, line, words)?)?;
-    Ok(())
-}
-
-// Takes one line into a script, whatever it is.
-fn take(heap: Global, script: &mut Script, line: usize, text: &str) -> Result<(), Wrong> {
+// Takes one line into the script, which the first line that has words begins.
+fn take_line(
+    heap: Global,
+    script: &mut Option<Script>,
+    line: usize,
+    text: &str,
+) -> Result<(), Wrong> {
     let words = words_of(heap, text)?;
-    take_line(heap, script, line, words.as_slice())
+    let words = words.as_slice();
+    match script {
+        _ if words.is_empty() => {}
+        Some(script) => script.commands.push(command(heap, line, words)?)?,
+        None => {
+            *script = Some(Script {
+                pages: pages_of(words)?,
+                commands: Vec::new(heap),
+            })
+        }
+    }
+    Ok(())
 }
 
 // The script that a text is.
 pub fn script(heap: Global, text: &str) -> Result<Script, Fault> {
-    let mut script = Script {
-        pages: 0,
-        commands: Vec::new(heap),
-    };
-    let mut line: usize = 1;
-    for each in text.lines() {
-        if let Err(wrong) = take(heap, &mut script, line, each) {
-            return Err(Fault { line, wrong });
-        }
-        line = line.saturating_add(1);
+    let mut script = None;
+    for (before, each) in text.lines().enumerate() {
+        let line = before.saturating_add(1);
+        take_line(heap, &mut script, line, each).map_err(|wrong| Fault { line, wrong })?;
     }
-    if script.pages == 0 {
-        return Err(Fault {
-            line,
-            wrong: Wrong::NoPages,
-        });
-    }
-    Ok(script)
+    script.ok_or_else(|| Fault {
+        line: text.lines().count().saturating_add(1),
+        wrong: Wrong::NoPages,
+    })
 }

@@ -4,5 +4,5 @@
 pub mod line;
 pub mod picture;
 pub mod rows;
-pub mod sum;
 pub mod text;
+pub mod words;

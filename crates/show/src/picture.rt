@@ -2,9 +2,15 @@
 use crate::rows::{Row, Sort};
 use device::mirror::Side;
 use std::alloc::{AllocError, Global};
+use std::fmt;
+use std::fmt::Write;
 
 // The height of a row, and where the columns stand.
 const ROW: u32 = 22;
+
+const ASKED: u32 = 10;
+
+const NUMBER: u32 = 150;
 
 const FIRST: u32 = 190;
 
@@ -14,33 +20,35 @@ const TOLD: u32 = 790;
 
 const WIDTH: u32 = 1080;
 
+// Where the heads of the columns stand, and where the rows begin below them.
+const HEAD: u32 = 8;
+
+const ROWS: u32 = 40;
+
+const STYLE: &str =
+    "<style>text{font:13px monospace}.asked{font-weight:bold}.number{fill:#888;text-anchor:end}\
+.told{fill:#063}.struck{fill:#b00}.dead{fill:#aaa}circle.write{fill:#333}circle.dead{fill:none;stroke:#aaa}\
+.disk{stroke:#99a;stroke-width:2}.power{stroke:#b00;stroke-width:2;stroke-dasharray:6 4}</style>";
+
 // Text with the characters that mean something in a picture written out.
-fn push_escaped(out: &mut String, text: &str) -> Result<(), AllocError> {
-    for c in text.chars() {
-        match c {
-            '&' => out.push_str("&amp;")?,
-            '<' => out.push_str("&lt;")?,
-            '>' => out.push_str("&gt;")?,
-            _ => out.push(c)?,
+#[derive(Clone, Copy)]
+struct Escaped<'a>(&'a str);
+
+impl fmt::Display for Escaped<'_> {
+    fn fmt<W: fmt::Write>(&self, f: &mut fmt::Formatter<W>) -> fmt::Result {
+        for c in self.0.chars() {
+            match c {
+                '&' => f.write_str("&amp;")?,
+                '<' => f.write_str("&lt;")?,
+                '>' => f.write_str("&gt;")?,
+                _ => f.write_char(c)?,
+            }
         }
+        Ok(())
     }
-    Ok(())
 }
 
-fn push_text(
-    heap: Global,
-    out: &mut String,
-    x: u32,
-    y: u32,
-    class: &str,
-    text: &str,
-) -> Result<(), AllocError> {
-    let begin = format!(in heap; "<text x=\"{x}\" y=\"{y}\" class=\"{class}\">")?;
-    out.push_str(begin.as_str())?;
-    push_escaped(out, text)?;
-    out.push_str("</text>\n")
-}
-
+// Where a disk's column stands. A match and no pair of places: the heads of the columns use the same two names.
 fn column(side: Side) -> u32 {
     match side {
         Side::First => FIRST,
@@ -48,118 +56,127 @@ fn column(side: Side) -> u32 {
     }
 }
 
-// A disk's bar beside a row, if the disk lives.
-fn push_bar(
-    heap: Global,
-    out: &mut String,
-    x: u32,
+// A picture that is drawn row by row.
+#[derive(Drop)]
+struct Svg {
+    out: String,
+    // Where the row begins that is drawn now.
     top: u32,
-    alive: bool,
-) -> Result<(), AllocError> {
-    if !alive {
-        return Ok(());
+}
+
+impl Svg {
+    // Where the middle of the row's text is, in height.
+    fn middle(&self) -> u32 {
+        self.top.saturating_add(11)
     }
-    let bottom = top.saturating_add(ROW);
-    let line = format!(in heap;
-        "<line x1=\"{x}\" y1=\"{top}\" x2=\"{x}\" y2=\"{bottom}\" class=\"disk\"/>\n"
-    )?;
-    out.push_str(line.as_str())
-}
 
-// A write: a dot on the disk's bar, hollow where the disk is dead.
-fn push_write(
-    heap: Global,
-    out: &mut String,
-    row: &Row,
-    side: Side,
-    class: &str,
-    y: u32,
-) -> Result<(), AllocError> {
-    let x = column(side);
-    let middle = y.saturating_sub(5);
-    let dot = format!(in heap; "<circle cx=\"{x}\" cy=\"{middle}\" r=\"5\" class=\"{class}\"/>\n")?;
-    out.push_str(dot.as_str())?;
-    let number = row.number;
-    let count = format!(in heap; "{number}")?;
-    push_text(heap, out, 150, y, "number", count.as_str())?;
-    push_text(heap, out, x.saturating_add(14), y, class, row.text.as_str())
-}
+    // Text in the row, from here to the right.
+    fn text(&mut self, x: u32, class: &str, text: &str) -> Result<(), AllocError> {
+        let y = self.top.saturating_add(16);
+        let text = Escaped(text);
+        writeln!(
+            self.out,
+            "<text x=\"{x}\" y=\"{y}\" class=\"{class}\">{text}</text>"
+        )
+    }
 
-fn push_power(heap: Global, out: &mut String, row: &Row, y: u32) -> Result<(), AllocError> {
-    let middle = y.saturating_sub(5);
-    let line = format!(in heap;
-        "<line x1=\"{FIRST}\" y1=\"{middle}\" x2=\"{WIDTH}\" y2=\"{middle}\" class=\"power\"/>\n"
-    )?;
-    out.push_str(line.as_str())?;
-    push_text(heap, out, 10, y, "struck", row.text.as_str())
-}
+    // A disk's bar beside the row, if the disk lives.
+    fn bar(&mut self, row: &Row, side: Side) -> Result<(), AllocError> {
+        if !row.living.has(side) {
+            return Ok(());
+        }
+        let x = column(side);
+        let top = self.top;
+        let bottom = top.saturating_add(ROW);
+        writeln!(
+            self.out,
+            "<line x1=\"{x}\" y1=\"{top}\" x2=\"{x}\" y2=\"{bottom}\" class=\"disk\"/>"
+        )
+    }
 
-fn push_death(
-    heap: Global,
-    out: &mut String,
-    row: &Row,
-    side: Side,
-    y: u32,
-) -> Result<(), AllocError> {
-    let x = column(side);
-    push_text(heap, out, x.saturating_sub(6), y, "struck", "✕")?;
-    push_text(
-        heap,
-        out,
-        x.saturating_add(14),
-        y,
-        "struck",
-        row.text.as_str(),
-    )
-}
+    // A write: a dot on the disk's bar, hollow where the disk is dead.
+    fn write(
+        &mut self,
+        side: Side,
+        number: u64,
+        class: &str,
+        text: &str,
+    ) -> Result<(), AllocError> {
+        let x = column(side);
+        let y = self.middle();
+        writeln!(
+            self.out,
+            "<circle cx=\"{x}\" cy=\"{y}\" r=\"5\" class=\"{class}\"/>"
+        )?;
+        let number = format!(in *self.out.allocator(); "{number}")?;
+        self.text(NUMBER, "number", number.as_str())?;
+        self.text(x.saturating_add(14), class, text)
+    }
 
-// What a row shows; y is where its text stands.
-fn push_row(heap: Global, out: &mut String, row: &Row, y: u32) -> Result<(), AllocError> {
-    match row.sort {
-        Sort::Asked => push_text(heap, out, 10, y, "asked", row.text.as_str()),
-        Sort::Written(side) => push_write(heap, out, row, side, "write", y),
-        Sort::Unwritten(side) => push_write(heap, out, row, side, "dead", y),
-        Sort::Told => push_text(heap, out, TOLD, y, "told", row.text.as_str()),
-        Sort::Power => push_power(heap, out, row, y),
-        Sort::Death(side) => push_death(heap, out, row, side, y),
-        Sort::Set => push_text(heap, out, FIRST, y, "struck", row.text.as_str()),
+    // A line over both disks where power goes.
+    fn power(&mut self, text: &str) -> Result<(), AllocError> {
+        let y = self.middle();
+        writeln!(
+            self.out,
+            "<line x1=\"{FIRST}\" y1=\"{y}\" x2=\"{WIDTH}\" y2=\"{y}\" class=\"power\"/>"
+        )?;
+        self.text(ASKED, "struck", text)
+    }
+
+    fn death(&mut self, side: Side, text: &str) -> Result<(), AllocError> {
+        let x = column(side);
+        self.text(x.saturating_sub(6), "struck", "✕")?;
+        self.text(x.saturating_add(14), "struck", text)
+    }
+
+    // What the row shows beside the bars.
+    fn content(&mut self, row: &Row) -> Result<(), AllocError> {
+        let text = row.text.as_str();
+        match row.sort {
+            Sort::Asked => self.text(ASKED, "asked", text),
+            Sort::Written { disk, number } => self.write(disk, number, "write", text),
+            Sort::Unwritten { disk, number } => self.write(disk, number, "dead", text),
+            Sort::Told => self.text(TOLD, "told", text),
+            Sort::Power => self.power(text),
+            Sort::Death(side) => self.death(side, text),
+            Sort::Set => self.text(FIRST, "struck", text),
+        }
+    }
+
+    // A row, and down to the next.
+    fn row(&mut self, row: &Row) -> Result<(), AllocError> {
+        self.bar(row, Side::First)?;
+        self.bar(row, Side::Second)?;
+        self.content(row)?;
+        self.top = self.top.saturating_add(ROW);
+        Ok(())
+    }
+
+    // The heads of the columns, and down to the first row.
+    fn head(&mut self, title: &str) -> Result<(), AllocError> {
+        self.text(ASKED, "told", title)?;
+        self.text(FIRST, "asked", "first disk")?;
+        self.text(SECOND, "asked", "second disk")?;
+        self.text(TOLD, "asked", "told")?;
+        self.top = ROWS;
+        Ok(())
     }
 }
-
-fn push_bars(heap: Global, out: &mut String, row: &Row, top: u32) -> Result<(), AllocError> {
-    push_bar(heap, out, FIRST, top, row.first)?;
-    push_bar(heap, out, SECOND, top, row.second)
-}
-
-fn push_all(heap: Global, out: &mut String, rows: &[Row]) -> Result<(), AllocError> {
-    let mut top: u32 = 40;
-    for row in rows {
-        push_bars(heap, out, row, top)?;
-        push_row(heap, out, row, top.saturating_add(16))?;
-        top = top.saturating_add(ROW);
-    }
-    Ok(())
-}
-
-const STYLE: &str =
-    "<style>text{font:13px monospace}.asked{font-weight:bold}.number{fill:#888;text-anchor:end}\
-.told{fill:#063}.struck{fill:#b00}.dead{fill:#aaa}circle.write{fill:#333}circle.dead{fill:none;stroke:#aaa}\
-.disk{stroke:#99a;stroke-width:2}.power{stroke:#b00;stroke-width:2;stroke-dasharray:6 4}</style>\n";
 
 // The whole picture.
 pub fn picture(heap: Global, title: &str, rows: &[Row]) -> Result<String, AllocError> {
     let height = (rows.len().min(100000) as u32)
         .saturating_mul(ROW)
         .saturating_add(60);
-    let mut out = format!(in heap;
-        "<svg xmlns=\"http://www.w3.org/2000/svg\" width=\"{WIDTH}\" height=\"{height}\">\n"
+    let out = format!(in heap;
+        "<svg xmlns=\"http://www.w3.org/2000/svg\" width=\"{WIDTH}\" height=\"{height}\">\n{STYLE}\n"
     )?;
-    out.push_str(STYLE)?;
-    push_text(heap, &mut out, 10, 24, "told", title)?;
-    push_text(heap, &mut out, FIRST, 24, "asked", "first disk")?;
-    push_text(heap, &mut out, SECOND, 24, "asked", "second disk")?;
-    push_text(heap, &mut out, TOLD, 24, "asked", "told")?;
-    push_all(heap, &mut out, rows)?;
+    let mut svg = Svg { out, top: HEAD };
+    svg.head(title)?;
+    for row in rows {
+        svg.row(row)?;
+    }
+    let Svg { mut out, .. } = svg;
     out.push_str("</svg>\n")?;
     Ok(out)
 }

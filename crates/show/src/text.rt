@@ -4,80 +4,74 @@
 // stands on the left, what is told on the right.
 use crate::rows::{Row, Sort};
 use device::mirror::Side;
-use std::alloc::{AllocError, Global};
+use std::alloc::AllocError;
+use std::fmt::Write;
 
 // What stands at a disk's bar.
-fn bar(alive: bool, died: bool) -> &'static str {
-    if died {
+fn bar(row: &Row, side: Side) -> &'static str {
+    if row.sort == Sort::Death(side) {
         return "X";
     }
-    if alive { "|" } else { " " }
+    if row.living.has(side) { "|" } else { " " }
 }
 
 // The text beside a disk's bar: only what is about this disk.
 fn beside<'a>(row: &'a Row, side: Side) -> &'a str {
-    let about = row.sort == Sort::Written(side)
-        || row.sort == Sort::Unwritten(side)
-        || row.sort == Sort::Death(side);
-    if about { row.text.as_str() } else { "" }
-}
-
-// The number of a write.
-fn number(heap: Global, row: &Row) -> Result<String, AllocError> {
-    let n = row.number;
     match row.sort {
-        Sort::Written(_) => format!(in heap; "{n}"),
-        // Not written: the disk is dead.
-        Sort::Unwritten(_) => format!(in heap; "({n})"),
-        _ => Ok(String::new(heap)),
+        Sort::Written { disk, .. } | Sort::Unwritten { disk, .. } | Sort::Death(disk)
+            if disk == side => { row.text.as_str() }
+        _ => "",
     }
 }
 
 // A row of writes, of a death or of what is told.
-fn draw_disks(heap: Global, out: &mut String, row: &Row) -> Result<(), AllocError> {
-    let number = number(heap, row)?;
-    let a = bar(row.first, row.sort == Sort::Death(Side::First));
-    let b = bar(row.second, row.sort == Sort::Death(Side::Second));
+fn draw_disks(out: &mut String, row: &Row) -> Result<(), AllocError> {
+    let heap = *out.allocator();
+    let number = match row.sort {
+        Sort::Written { number, .. } => format!(in heap; "{number}")?,
+        // Not written: the disk is dead.
+        Sort::Unwritten { number, .. } => format!(in heap; "({number})")?,
+        _ => String::new(heap),
+    };
+    let a = bar(row, Side::First);
+    let b = bar(row, Side::Second);
     let first = beside(row, Side::First);
     let second = beside(row, Side::Second);
-    let told = if row.sort == Sort::Told {
-        row.text.as_str()
-    } else {
-        ""
+    let told = match row.sort {
+        Sort::Told => row.text.as_str(),
+        _ => "",
     };
     let line = format!(in heap; "{number:>6}  {a} {first:<34} {b} {second:<34} {told}")?;
-    out.push_str(line.as_str().trim_end())?;
-    out.push('\n')
+    let line = line.as_str().trim_end();
+    writeln!(out, "{line}")
 }
 
 // A row that goes over both disks.
-fn draw_across(heap: Global, out: &mut String, row: &Row, fill: &str) -> Result<(), AllocError> {
+fn draw_across(out: &mut String, row: &Row, fill: &str) -> Result<(), AllocError> {
     let text = row.text.as_str();
-    let line = format!(in heap; "        {fill}{fill} {text} {fill}{fill}\n")?;
-    out.push_str(line.as_str())
+    writeln!(out, "        {fill}{fill} {text} {fill}{fill}")
 }
 
-fn draw_row(heap: Global, out: &mut String, row: &Row) -> Result<(), AllocError> {
+fn draw_row(out: &mut String, row: &Row) -> Result<(), AllocError> {
     match row.sort {
         Sort::Asked => {
             let text = row.text.as_str();
-            let line = format!(in heap; "{text}\n")?;
-            out.push_str(line.as_str())
+            writeln!(out, "{text}")
         }
-        Sort::Power => draw_across(heap, out, row, "=========="),
-        Sort::Set => draw_across(heap, out, row, "----------"),
-        _ => draw_disks(heap, out, row),
+        Sort::Power => draw_across(out, row, "=========="),
+        Sort::Set => draw_across(out, row, "----------"),
+        Sort::Written { .. } | Sort::Unwritten { .. } | Sort::Told | Sort::Death(_) => {
+            draw_disks(out, row)
+        }
     }
 }
 
 // The whole drawing, put behind what is there.
-pub fn draw(heap: Global, out: &mut String, rows: &[Row]) -> Result<(), AllocError> {
+pub fn draw(out: &mut String, rows: &[Row]) -> Result<(), AllocError> {
     let head = "first disk";
-    let second = "second disk";
-    let line = format!(in heap; "        {head:<36} {second}\n")?;
-    out.push_str(line.as_str())?;
+    writeln!(out, "        {head:<36} second disk")?;
     for row in rows {
-        draw_row(heap, out, row)?;
+        draw_row(out, row)?;
     }
     Ok(())
 }

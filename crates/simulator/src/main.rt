@@ -13,16 +13,16 @@
 
 mod watch;
 
-use every::explore::{Outcome, explore};
+use every::explore::explore;
 use play::play::{Play, play_script};
 use script::order::{Fault, Script};
 use script::read;
 use show::line::Line;
 use show::picture::picture;
-use show::rows::rows_of;
-use show::sum::Sum;
+use show::rows::{Row, rows_of};
 use show::text::draw;
-use std::alloc::AllocError;
+use show::words::Words;
+use std::alloc::{AllocError, Global};
 use std::fmt::Write;
 use std::process::ExitCode;
 use std::{env, fs, io};
@@ -58,13 +58,24 @@ enum Mode {
     Every,
 }
 
-// The mode that a word stands for.
-fn mode_of(word: &str) -> Option<Mode> {
-    match word {
-        "--play" => Some(Mode::Play),
-        "--draw" => Some(Mode::Draw),
-        "--every" => Some(Mode::Every),
-        _ => None,
+impl Mode {
+    // The mode that a word stands for. No `FromStr`: a word that is none is no error, but a script's name.
+    fn of(word: &str) -> Option<Mode> {
+        match word {
+            "--play" => Some(Mode::Play),
+            "--draw" => Some(Mode::Draw),
+            "--every" => Some(Mode::Every),
+            _ => None,
+        }
+    }
+
+    // What is said of it beside a script's name.
+    fn title(self) -> &'static str {
+        match self {
+            Mode::Play => "",
+            Mode::Draw => ", drawn",
+            Mode::Every => ", at every moment",
+        }
     }
 }
 
@@ -72,7 +83,7 @@ fn mode_of(word: &str) -> Option<Mode> {
 fn stop(rt: &HostRuntime, path: &str, fault: Fault) -> Stopped {
     match eprintln!(rt; "simulator: {path}: {fault}") {
         Ok(()) => Stopped::Told,
-        Err(_) => Stopped::Output,
+        Err(e) => e.into(),
     }
 }
 
@@ -82,124 +93,122 @@ fn load(rt: &HostRuntime, path: &str) -> Result<Script, Stopped> {
         eprintln!(rt; "simulator: {path}: can't be read")?;
         return Err(Stopped::Told);
     };
-    match read::script(rt.alloc(), text.as_str()) {
-        Ok(script) => Ok(script),
-        Err(fault) => Err(stop(rt, path, fault)),
-    }
+    read::script(rt.alloc(), text.as_str()).map_err(|fault| stop(rt, path, fault))
 }
 
-fn played(rt: &HostRuntime, path: &str, script: &Script) -> Result<Play, Stopped> {
-    match play_script(rt.alloc(), script) {
-        Ok(play) => Ok(play),
-        Err(fault) => Err(stop(rt, path, fault)),
-    }
+// A script and its play.
+#[derive(Drop)]
+struct Played {
+    script: Script,
+    play: Play,
 }
 
-fn explored(rt: &HostRuntime, path: &str, script: &Script) -> Result<Outcome, Stopped> {
-    let mut watcher = Watcher::new(rt);
-    let outcome = explore(rt.alloc(), script, &mut watcher);
-    watcher.clear();
-    match outcome {
-        Ok(outcome) => Ok(outcome),
-        Err(fault) => Err(stop(rt, path, fault)),
+impl Played {
+    // Plays the script in a file.
+    fn of(rt: &HostRuntime, path: &str) -> Result<Played, Stopped> {
+        let script = load(rt, path)?;
+        let play = play_script(rt.alloc(), &script).map_err(|fault| stop(rt, path, fault))?;
+        Ok(Played { script, play })
     }
-}
 
-// Puts the lines of a play behind what is there.
-fn print_marks(out: &mut String, script: &Script, play: &Play) -> Result<(), AllocError> {
-    for mark in play.marks() {
-        let line = Line {
-            script,
-            mark: *mark,
-        };
-        if writeln!(out, "{line}").is_err() {
-            return Err(AllocError);
+    // What happened, a line for each thing.
+    fn print(&self, out: &mut String) -> Result<(), AllocError> {
+        for mark in self.play.marks() {
+            let line = Line(Words {
+                script: &self.script,
+                mark: *mark,
+            });
+            writeln!(out, "{line}")?;
+        }
+        Ok(())
+    }
+
+    // The rows of its drawing.
+    fn rows(&self, heap: Global) -> Result<Vec<Row>, AllocError> {
+        rows_of(heap, &self.script, self.play.marks())
+    }
+
+    // What is promised of it.
+    fn promise(&self) -> &'static str {
+        if self.play.is_explained() {
+            "= a book explains every answer\n"
+        } else {
+            "= bytes were set by hand: nothing is promised\n"
         }
     }
-    Ok(())
 }
 
-// What is promised of a play that is done.
-fn promise(play: &Play) -> &'static str {
-    if play.is_explained() {
-        "= a book explains every answer\n"
-    } else {
-        "= bytes were set by hand: nothing is promised\n"
+// What is printed once all is played.
+#[derive(Drop)]
+struct Report<'a> {
+    rt: &'a HostRuntime,
+    out: String,
+    // No world was found in which something fails.
+    holds: bool,
+}
+
+impl Report<'_> {
+    // The name of a script, above what is printed of it.
+    fn name(&mut self, path: &str, mode: Mode) -> Result<(), AllocError> {
+        if !self.out.is_empty() {
+            self.out.push('\n')?;
+        }
+        let title = mode.title();
+        writeln!(self.out, "# {path}{title}")
     }
-}
 
-fn print_play(rt: &HostRuntime, path: &str, out: &mut String) -> Result<(), Stopped> {
-    let script = load(rt, path)?;
-    let play = played(rt, path, &script)?;
-    print_marks(out, &script, &play)?;
-    out.push_str(promise(&play))?;
-    Ok(())
-}
-
-fn print_drawing(rt: &HostRuntime, path: &str, out: &mut String) -> Result<(), Stopped> {
-    let script = load(rt, path)?;
-    let play = played(rt, path, &script)?;
-    let rows = rows_of(rt.alloc(), &script, play.marks())?;
-    draw(rt.alloc(), out, rows.as_slice())?;
-    out.push_str(promise(&play))?;
-    Ok(())
-}
-
-// False: a world was found in which something fails.
-fn print_search(rt: &HostRuntime, path: &str, out: &mut String) -> Result<bool, Stopped> {
-    let script = load(rt, path)?;
-    played(rt, path, &script)?;
-    let outcome = explored(rt, path, &script)?;
-    let sum = Sum { outcome: &outcome };
-    if write!(out, "{sum}").is_err() {
-        return Err(Stopped::Memory);
+    // A script that is played with mishaps at every moment.
+    fn search(&mut self, path: &str, script: &Script) -> Result<(), Stopped> {
+        let mut watcher = Watcher::new(self.rt);
+        let searched = explore(self.rt.alloc(), script, |counts| watcher.watch(counts));
+        watcher.clear();
+        let outcome = searched.map_err(|fault| stop(self.rt, path, fault))?;
+        write!(self.out, "{outcome}")?;
+        self.holds = self.holds && outcome.found.is_none();
+        Ok(())
     }
-    Ok(outcome.found.is_none())
-}
 
-// The name of a script, above what is printed of it.
-fn print_name(path: &str, mode: Mode, out: &mut String) -> Result<(), AllocError> {
-    if !out.is_empty() {
-        out.push('\n')?;
+    // One script.
+    fn add(&mut self, path: &str, mode: Mode) -> Result<(), Stopped> {
+        self.name(path, mode)?;
+        let played = Played::of(self.rt, path)?;
+        match mode {
+            Mode::Play => played.print(&mut self.out)?,
+            Mode::Draw => {
+                let rows = played.rows(self.rt.alloc())?;
+                draw(&mut self.out, rows.as_slice())?;
+            }
+            Mode::Every => return self.search(path, &played.script),
+        }
+        self.out.push_str(played.promise())?;
+        Ok(())
     }
-    out.push_str("# ")?;
-    out.push_str(path)?;
-    out.push_str(match mode {
-        Mode::Play => "\n",
-        Mode::Draw => ", drawn\n",
-        Mode::Every => ", at every moment\n",
-    })
-}
-
-fn print_one(rt: &HostRuntime, path: &str, mode: Mode, out: &mut String) -> Result<bool, Stopped> {
-    print_name(path, mode, out)?;
-    match mode {
-        Mode::Play => print_play(rt, path, out)?,
-        Mode::Draw => print_drawing(rt, path, out)?,
-        Mode::Every => return print_search(rt, path, out),
-    }
-    Ok(true)
 }
 
 // All words, one after the other.
 fn print_all(rt: &HostRuntime, words: &[String]) -> Result<(), Stopped> {
-    let mut out = String::new(rt.alloc());
+    let mut report = Report {
+        rt,
+        out: String::new(rt.alloc()),
+        holds: true,
+    };
     let mut now = Mode::Play;
-    let mut held = true;
     for word in words {
-        match mode_of(word.as_str()) {
+        match Mode::of(word.as_str()) {
             Some(mode) => now = mode,
-            None => held = print_one(rt, word.as_str(), now, &mut out)? & held,
+            None => report.add(word.as_str(), now)?,
         }
     }
-    rt.print(out.as_str())?;
-    if held { Ok(()) } else { Err(Stopped::Found) }
+    rt.print(report.out.as_str())?;
+    if report.holds {
+        Ok(())
+    } else {
+        Err(Stopped::Found)
+    }
 }
 
 fn write_picture(rt: &HostRuntime, file: &str, path: &str) -> Result<(), Stopped> {
-    let script = load(rt, path)?;
-    let play = played(rt, path, &script)?;
-    let rows = rows_of(rt.alloc(), &script, play.marks())?;
+    let rows = Played::of(rt, path)?.rows(rt.alloc())?;
     let text = picture(rt.alloc(), path, rows.as_slice())?;
     fs::write(rt, file, text.as_str())?;
     Ok(())

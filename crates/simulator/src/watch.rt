@@ -1,5 +1,5 @@
 // A line that tells how far a search is, where standard error is a terminal.
-use every::explore::{Counts, Watch};
+use every::explore::Counts;
 use std::io::IsTerminal;
 
 // How many worlds are looked at between two lines.
@@ -14,11 +14,7 @@ pub struct Watcher<'a> {
 
 impl Watcher<'_> {
     pub fn new<'a>(rt: &'a HostRuntime) -> Watcher<'a> {
-        let next = if rt.stderr().is_terminal() {
-            Some(STEP)
-        } else {
-            None
-        };
+        let next = rt.stderr().is_terminal().then_some(STEP);
         Watcher { rt, next }
     }
 
@@ -28,18 +24,13 @@ impl Watcher<'_> {
             let _ = eprint!(self.rt; "\r                        \r");
         }
     }
-}
 
-impl Watch for Watcher<'_> {
-    fn watch(&mut self, counts: Counts) {
-        let Some(next) = self.next else {
-            return;
-        };
+    // So many worlds were looked at; now and then that is told.
+    pub fn watch(&mut self, counts: Counts) {
         let worlds = counts.worlds;
-        if worlds < next {
-            return;
+        if self.next.is_some_and(|next| worlds >= next) {
+            self.next = Some(worlds.saturating_add(STEP));
+            let _ = eprint!(self.rt; "\r{worlds} worlds");
         }
-        self.next = Some(worlds.saturating_add(STEP));
-        let _ = eprint!(self.rt; "\r{worlds} worlds");
     }
 }
