@@ -152,6 +152,8 @@ def messages():
         for name in sorted(os.listdir(folder)):
             text = read_text("crates", crate, "src", name)
             found += re.findall(r'(?:refuse|eprintln!|format_args!)\(\s*(?:(?:self\.)?rt[,;])?\s*"((?:register: )?[^"]*)"', text)
+    # A refusal is told in its own words.
+    found += re.findall(r'(?:write!\(f, |write_str\()"([^"]*)"', read_text("crates", "wire", "src", "answer.rt"))
     return [text for text in found if re.search(r"[a-z]{3}", re.sub(r"\{.*?\}", "", text.replace("register: ", "")))]
 
 
