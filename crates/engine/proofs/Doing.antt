@@ -64,7 +64,7 @@ pub late_read : (q : Plan) (kind : Kind) (k : ℕ) (d : Both) (b h : List Page) 
 late_read q (Header x) k d b h z r same o = absurd z
 late_read q (Listing i p) k d b h z r same o = absurd z
 late_read q Given k d b h z r same o = absurd z
-late_read q (Logged i) k d b h z r same o = rw z (on_one_log d b h i.place i.there (same r) o)
+late_read q (Logged i) k d b h z r same o = rw z (on_one_log d b h i r.1 (same r.0) o)
 late_read q Empty k d b h z r same o = absurd z
 
 -- one block read

@@ -18,7 +18,7 @@ use journal::admit;
 use journal::plan::Plan;
 use layout::log::{Front, Log};
 use layout::places::Layout;
-use octets::{Block, EMPTY};
+use octets::{BLOCK, Block, EMPTY};
 use wire::answer::Answer;
 use wire::call;
 use wire::call::Call;
@@ -75,9 +75,8 @@ fn read_log<P: Pair>(disks: &mut P, pages: u32, list: &mut Block) -> Result<Log,
 {
     let mut bytes = [0; Front::BYTES];
     disks.read(Layout::HEADER, &mut bytes)?;
-    let front = Front::of(&bytes);
-    octets::copy_block(&front.list, list);
-    Ok(front.log(pages))
+    octets::copy_block(octets::block_at(&bytes, BLOCK), list);
+    Ok(Log::decode(octets::block_at(&bytes, 0), list, pages))
 }
 
 // The bytes that come with a call, in a block of their own.

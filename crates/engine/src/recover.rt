@@ -14,7 +14,7 @@ use crate::work::Work;
 use device::Dead;
 use device::mirror::{PIECE_BLOCKS, PIECE_BYTES, Pair};
 use journal::admit;
-use layout::log::Front;
+use layout::log::{Front, Log};
 use layout::places::Layout;
 use octets::{BLOCK, Block, EMPTY};
 
@@ -23,14 +23,17 @@ fn highest_difference(first: &[u8], second: &[u8]) -> Option<usize>
     ensures bound { IfSome result (λ i. (1024 * i + 1024 ≤ length first.now) × (1024 * i + 1024 ≤ length second.now)) }
     ensures value { Highest (block_of first.now) (block_of second.now) 0 (blocks_in first.now second.now) result }
 {
-    if first == second {
+    if octets::same(first, second) {
         return None;
     }
     let blocks = first.len().min(second.len()) / BLOCK;
     // Not `rfind`: tried, and that its answer is the highest was not proved, since of a range that is read from its
     // end the library states single steps.
     for i in (0..blocks).rev() {
-        if octets::block_at(first, BLOCK * i) != octets::block_at(second, BLOCK * i) {
+        if !octets::same(
+            octets::block_at(first, BLOCK * i),
+            octets::block_at(second, BLOCK * i),
+        ) {
             return Some(i);
         }
     }
@@ -84,11 +87,11 @@ fn replaying(copy: Option<u64>, block: Block, bytes: &[u8; Front::BYTES], pages:
     ensures keeps { (result.copy ≡ copy) × (result.block ≡ block) }
     ensures plan { WorksOut bytes.now pages result }
 {
-    let front = Front::of(bytes);
+    let list = *octets::block_at(bytes, BLOCK);
     Work {
         copy,
-        plan: admit::replay(front.log(pages)),
-        list: front.list,
+        plan: admit::replay(Log::decode(octets::block_at(bytes, 0), &list, pages)),
+        list,
         block,
     }
 }

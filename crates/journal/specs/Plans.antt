@@ -1,5 +1,6 @@
 -- What a plan's steps mean, by the disk as it was when the plan was worked out. Definitions only.
-use Rattle.std.specs.Prelude.{◌≡◌, ℕ, suc, ◌+◌, Bool, true, false, List, [], ◌∷◌, ◌++◌, nat_lt}
+use Rattle.std.specs.Prelude.{◌≡◌, ℕ, suc, ◌+◌, ◌<◌, Bool, true, false, List, [], ◌∷◌, ◌++◌, nat_lt}
+use Rattle.model.specs.Numbers.{room}
 use Rattle.model.specs.Book.{Page, empty_page, nth}
 use Rattle.model.specs.Plain.{Put}
 use Rattle.layout.specs.Header.{header_block}
@@ -19,12 +20,12 @@ replays (Close n) = nat_lt 0 n.writes
 replays (Replay n) = nat_lt 0 n.writes
 replays (Make k) = false
 
--- what is read off the log is read by a plan that replays it
+-- what is read off the log is read by a plan that replays it, and lies in the log
 abbrev pub ReadsLog : Plan → Kind → Type 0
 ReadsLog q (Header h) = Unit {0}
 ReadsLog q (Listing i p) = Unit {0}
 ReadsLog q Given = Unit {0}
-ReadsLog q (Logged i) = replays q ≡ true
+ReadsLog q (Logged i) = (replays q ≡ true) × (i < room)
 ReadsLog q Empty = Unit {0}
 
 -- the block that has the bytes of a kind that is read off the log
@@ -32,7 +33,7 @@ abbrev pub LogBlock : Kind → ℕ → Type 0
 LogBlock (Header h) k = ⊥
 LogBlock (Listing i p) k = ⊥
 LogBlock Given k = ⊥
-LogBlock (Logged i) k = k ≡ 2 + i.place
+LogBlock (Logged i) k = k ≡ 2 + i
 LogBlock Empty k = ⊥
 
 -- the bytes of a kind; given: what came with the write
@@ -40,7 +41,7 @@ abbrev pub content : Page → List Page → Kind → Page
 content given b (Header h) = header_block h.holds h.count
 content given b (Listing i p) = list_with (nth b 1) i.place p
 content given b Given = given
-content given b (Logged i) = nth b (2 + i.place)
+content given b (Logged i) = nth b (2 + i)
 content given b Empty = empty_page
 
 abbrev pub step_put : Page → List Page → Step → Put

@@ -3,7 +3,7 @@
 // The refusals are checked in one order, and the first that applies is told: bytes that are no call; a page
 // that hasn't 1,024 bytes; a page that is not there; a write when the log is full. Only the last asks for the
 // log, so all others are told without a look at the disks.
-ghost use Rattle.std.specs.Prelude.{◌≡◌, List, MatchResult};
+ghost use Rattle.std.specs.Prelude.{◌≡◌, ◌<◌, ◌≤◌, true, false, List, length, MatchOption, MatchResult, ◌==◌};
 ghost use Rattle.model.specs.Book.{Page};
 ghost use Rattle.wire.specs.Calls.{meant};
 ghost use Rattle.wire.specs.Answers.{refusal_number, refusal_place};
@@ -18,6 +18,24 @@ use octets::BLOCK;
 use wire::answer::Refusal;
 use wire::call::Call;
 
+// The bytes of a page, if they are a whole one.
+fn whole(bytes: &[u8]) -> Option<&[u8]>
+    ensures { MatchOption result ((length bytes.now == 1024) ≡ false) (λ x. ((length bytes.now == 1024) ≡ true) × (x.now ≡ bytes.now)) }
+{
+    if bytes.len() == BLOCK {
+        Some(bytes)
+    } else {
+        None
+    }
+}
+
+// A page's number, if there is such a page.
+fn there(page: u32, pages: u32) -> Option<u32>
+    ensures { MatchOption result (pages ≤ page) (λ x. (x ≡ page) × (page < pages)) }
+{
+    if page < pages { Some(page) } else { None }
+}
+
 // The call itself, or why it is refused before the log is looked at.
 pub fn admit<'a>(pages: u32, call: Call<'a>) -> Result<Call<'a>, Refusal>
     ensures { MatchResult result
@@ -25,9 +43,22 @@ pub fn admit<'a>(pages: u32, call: Call<'a>) -> Result<Call<'a>, Refusal>
         (λ e. (refusal_number e ≡ early pages (meant call.entry)) × (refusal_place e ≡ 0)) }
 {
     match call {
-        Call::Write { bytes, .. } if bytes.len() != BLOCK => Err(Refusal::Unfit),
-        Call::Read { page } | Call::Write { page, .. } if page >= pages => Err(Refusal::NoSuchPage),
-        _ => Ok(call),
+        Call::Read { page } => {
+            let Some(page) = there(page, pages) else {
+                return Err(Refusal::NoSuchPage);
+            };
+            Ok(Call::Read { page })
+        }
+        Call::Write { page, bytes } => {
+            let Some(bytes) = whole(bytes) else {
+                return Err(Refusal::Unfit);
+            };
+            let Some(page) = there(page, pages) else {
+                return Err(Refusal::NoSuchPage);
+            };
+            Ok(Call::Write { page, bytes })
+        }
+        Call::Close | Call::Size => Ok(call),
     }
 }
 
@@ -40,7 +71,9 @@ pub fn plan(log: Log, call: Call<'_>) -> Result<Plan, Refusal>
 {
     match call {
         Call::Write { page, .. } => {
-            let slot = log.count.next().ok_or(Refusal::LogFull)?;
+            let Some(slot) = log.count.next() else {
+                return Err(Refusal::LogFull);
+            };
             Ok(Plan::Write { slot, page })
         }
         Call::Close => Ok(Plan::Close { count: log.count }),

@@ -21,8 +21,8 @@ pub enum Kind {
     List { slot: Slot, page: u32 },
     // The bytes that came with a write.
     Given,
-    // The log's write at this place.
-    Logged(Slot),
+    // The log's write at this place. A number, and no `Slot`: where the block stands is told of any.
+    Logged(u32),
     Empty,
 }
 
@@ -63,7 +63,7 @@ fn replay_step(list: &Block, count: Count, i: u64) -> Option<Step>
     match count.slot(i) {
         Some(slot) => Some(Step {
             block: Layout::page(list::page(list, slot)),
-            kind: Kind::Logged(slot),
+            kind: Kind::Logged(slot.place),
         }),
         None if i == u64::from(count.writes) => Some(EMPTY_HEADER),
         None => None,
@@ -158,7 +158,7 @@ pub fn fill(kind: Kind, list: &Block, given: &Block, out: &mut Block) -> Option<
             list::put_page(out, slot, page);
         }
         Kind::Given => octets::copy_block(given, out),
-        Kind::Logged(slot) => return Some(Layout::log(slot.place)),
+        Kind::Logged(place) => return Some(Layout::log(place)),
         Kind::Empty => octets::clear(out),
     }
     None

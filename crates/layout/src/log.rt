@@ -46,6 +46,43 @@ impl fmt::Display for Strange {
     }
 }
 
+impl Log {
+    // What a header and a list say together, or why no register with so many pages wrote them.
+    pub fn read(header: &Block, list: &Block, pages: u32) -> Result<Log, Strange>
+        ensures { MatchResult result
+            (λ log. (sane header.now list.now pages ≡ true)
+            × (log.holds ≡ log_holds header.now list.now pages) × (log.count.writes ≡ log_count header.now list.now pages))
+            (λ _. sane header.now list.now pages ≡ false) }
+    {
+        let flag = flag_of(header);
+        if flag > 1 {
+            return Err(Strange::Flag);
+        }
+        let count = Count::new(count_of(header)).ok_or(Strange::Count)?;
+        if !all_below(list, pages, count) {
+            return Err(Strange::Page);
+        }
+        Ok(Log {
+            holds: flag == 1,
+            count,
+        })
+    }
+
+    // What they say of the log; strange ones are read as an empty one.
+    pub fn decode(header: &Block, list: &Block, pages: u32) -> Log
+        ensures holds { result.holds ≡ log_holds header.now list.now pages }
+        ensures count { result.count.writes ≡ log_count header.now list.now pages }
+    {
+        match Log::read(header, list, pages) {
+            Ok(log) => log,
+            Err(_) => Log {
+                holds: false,
+                count: Count::NONE,
+            },
+        }
+    }
+}
+
 // The front of a disk: the header and the list, which say something only together.
 #[derive(Clone, Copy, PartialEq, Eq, Debug)]
 pub struct Front {
@@ -75,18 +112,7 @@ impl Front {
             × (log.holds ≡ log_holds self.now.header self.now.list pages) × (log.count.writes ≡ log_count self.now.header self.now.list pages))
             (λ _. sane self.now.header self.now.list pages ≡ false) }
     {
-        let flag = flag_of(&self.header);
-        if flag > 1 {
-            return Err(Strange::Flag);
-        }
-        let count = Count::new(count_of(&self.header)).ok_or(Strange::Count)?;
-        if !all_below(&self.list, pages, count) {
-            return Err(Strange::Page);
-        }
-        Ok(Log {
-            holds: flag == 1,
-            count,
-        })
+        Log::read(&self.header, &self.list, pages)
     }
 
     // Whether a register with so many pages may have written it.
@@ -101,12 +127,6 @@ impl Front {
         ensures holds { result.holds ≡ log_holds self.now.header self.now.list pages }
         ensures count { result.count.writes ≡ log_count self.now.header self.now.list pages }
     {
-        match self.decode(pages) {
-            Ok(log) => log,
-            Err(_) => Log {
-                holds: false,
-                count: Count::NONE,
-            },
-        }
+        Log::decode(&self.header, &self.list, pages)
     }
 }

@@ -33,11 +33,12 @@ pub fn put_u32(dst: &mut [u8], at: usize, n: u32)
     dst[at..at + 4].copy_from_slice(&n.to_le_bytes());
 }
 
-// One block written over another.
-pub fn copy_block(from: &Block, to: &mut Block)
+// One block read from one slice and written in another.
+pub fn copy_block(from: &[u8], to: &mut [u8])
+    requires { (length from.now ≡ 1024) × (length to.old ≡ 1024) }
     ensures { to.new ≡ from.now }
 {
-    *to = *from;
+    to.copy_from_slice(from);
 }
 
 // A block that stands in the middle of longer bytes, handed on as a part of them.
@@ -71,8 +72,7 @@ pub fn is_empty(block: &[u8]) -> bool
     same(block, &EMPTY)
 }
 
-// Whether two slices hold the same bytes. It stays beside `==`: its contract is the promise that equality of blocks
-// can be decided.
+// Whether two slices hold the same bytes. A start compares both disks whole by this, and recovery again.
 pub fn same(a: &[u8], b: &[u8]) -> bool
     ensures { Decides result (a.now ≡ b.now) }
 {

@@ -5,11 +5,11 @@ use Rattle.engine.proofs.recover.replaying.Goals as goal
 
 pub returns : goal.returns
 returns c =
-    let list = c.of-front.result.list in
-    let header = c.of-front.ensures.header in
-    let holds = c.log.ensures.holds ∙ ap (λ (h : List ℕ). log_holds h list c.args.pages) header in
-    let count = c.log.ensures.count ∙ ap (λ (h : List ℕ). log_count h list c.args.pages) header in
+    let list = c.block_at.result.now in
+    let header = c.block_at-2.ensures.value in
+    let holds = c.decode.ensures.holds ∙ ap (λ (h : List ℕ). log_holds h list c.args.pages) header in
+    let count = c.decode.ensures.count ∙ ap (λ (h : List ℕ). log_count h list c.args.pages) header in
     record {
       keeps = (refl, refl);
-      plan = worked_out c.args.bytes.now list c.args.block c.args.pages _ _ c.replay.result (search rules) c.of-front.ensures.list holds count c.replay.ensures;
+      plan = worked_out c.args.bytes.now list c.args.block c.args.pages _ _ c.replay.result (search rules) c.block_at.ensures.value holds count c.replay.ensures;
     }

@@ -1,5 +1,4 @@
-use Rattle.std.proofs.Common.{◌≡◌, ℕ, ◌<◌, ◌≤◌, ◌⊎◌, List, [], Some, MatchOption, refl, sym, ap, subst, ◌∙◌, inl, inr}
-use Rattle.std.specs.Result.{result_ok}
+use Rattle.std.proofs.Common.{◌≡◌, ℕ, ◌⊎◌, List, [], refl, sym, ◌∙◌, inl, inr}
 use Rattle.std.proofs.lemmas.Bool.{lt-ltb}
 use Rattle.model.specs.Numbers.{room}
 use Rattle.model.specs.Book.{Page}
@@ -11,13 +10,11 @@ use Rattle.journal.specs.Admission.{late}
 use Rattle.journal.proofs.Admitted.{write_planned, close_planned}
 use Rattle.journal.proofs.admit.plan.Goals as goal
 
-pub returns-in_ok-slot-in-Write : goal.returns-in_ok-slot-in-Write
-returns-in_ok-slot-in-Write c =
-    let s = c.in_ok-slot-in-Write.slot in
-    let e : c.next.result ≡ Some s = c.ok_or.ensures.ok_part ∙ ap result_ok c.in_ok-slot-in-Write.was in
-    let p = subst (λ o. MatchOption o (room ≤ c.args.log.count.writes) (λ s. (s.place ≡ c.args.log.count.writes) × (c.args.log.count.writes < room))) e c.next.ensures in
+pub returns-in-Some : goal.returns-in-Some
+returns-in-Some c =
+    let p = c.in-Some.ensures in
     let h = lt-ltb c.args.log.count.writes room p.1 in
-    simp (c.in-Write.is, h) (refl, λ b given q f. write_planned b s c.in-Write.page given c.in-Write.bytes.now (q ∙ sym p.0) f)
+    simp (c.in-Write.is, h) (refl, λ b given q f. write_planned b c.in-Some.slot c.in-Write.page given c.in-Write.bytes.now (q ∙ sym p.0) f)
 
 pub returns-in-Close : goal.returns-in-Close
 returns-in-Close c = simp c.in-Close.is (refl, λ b given q f. close_planned b c.args.log.count given q)
