@@ -18,6 +18,11 @@ pub enum FileError {
     NoMemory,
 }
 
+// The numbers by which the system tells that no file has a name, and that it can't be asked for something.
+pub const ENOENT: i32 = 2;
+
+pub const EINVAL: i32 = 22;
+
 // The numbers by which the system tells of no open file and of no memory.
 const EBADF: i32 = 9;
 

@@ -1,9 +1,8 @@
 // Which file a name or a descriptor leads to, whatever it is called: its device and its number there.
 use files::descriptor::Descriptor;
-use files::errors::FileError;
+use files::errors::{EINVAL, FileError};
 use std::fs::{Metadata, metadata};
-use std::io;
-use std::io::ErrorKind;
+use std::io::Error;
 use std::os::unix::fs::MetadataExt;
 use std::str::from_utf8;
 
@@ -44,7 +43,7 @@ pub fn of_open(file: &Descriptor) -> Result<Known, FileError> {
 // What is known of the file that a name leads to, through links. A name that is no text can't be asked for.
 pub fn of_name(rt: &HostRuntime, path: &[u8]) -> Result<Known, FileError> {
     let Ok(path) = from_utf8(path) else {
-        return Err(io::Error::from(ErrorKind::InvalidInput).into());
+        return Err(Error::from_raw_os_error(EINVAL).into());
     };
     Ok(metadata(rt, path)?.into())
 }

@@ -37,12 +37,12 @@ impl Differences {
 
 // Adds the blocks in which two pieces differ, of which the first has this number.
 fn compare_piece(first: &[u8], second: &[u8], from: u64, found: &mut Option<Differences>) {
-    if first == second {
+    if octets::same(first, second) {
         return;
     }
     let blocks = first.chunks_exact(BLOCK).zip(second.chunks_exact(BLOCK));
     for (i, (a, b)) in blocks.enumerate() {
-        if a != b {
+        if !octets::same(a, b) {
             *found = Some(Differences::with(*found, from.saturating_add(i as u64)));
         }
     }

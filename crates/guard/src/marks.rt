@@ -6,7 +6,7 @@
 use crate::identity::of_name;
 use crate::names::sync_folder;
 use files::descriptor::Descriptor;
-use files::errors::FileError;
+use files::errors::{ENOENT, FileError};
 use std::alloc::AllocError;
 use std::fmt;
 use std::fs::File;
@@ -91,13 +91,11 @@ fn have(rt: &HostRuntime, name: &str, text: &str) -> Result<Descriptor, FileErro
 pub fn set(rt: &HostRuntime, disk: &str, mark: Mark, text: &str) -> Result<(), FileError> {
     let name = mark_name(rt, disk, mark)?;
     let line = format!(in rt.alloc(); "{text}\n")?;
-    have(rt, name.as_str(), line.as_str())?.sync()?;
+    // The mark stays open until its folder is synced too.
+    let file = have(rt, name.as_str(), line.as_str())?;
+    file.sync()?;
     sync_folder(rt, name.as_str())
 }
-
-// The number by which the system tells that no file has a name. No kind of an error stands here: the text that is
-// printed is the system's own, which it has for its numbers alone.
-const ENOENT: i32 = 2;
 
 // Notes a death, to last: beside the disk that goes on, and beside the dead one where that can be done. An
 // error: it could not be noted beside the one that goes on.
@@ -107,6 +105,8 @@ pub fn note_death(
     dead: Option<&str>,
     text: &str,
 ) -> Result<(), FileError> {
+    // By its number, and not by a kind of error: the text that is printed is the system's own, which it has for its
+    // numbers alone.
     let living = living.ok_or(Error::from_raw_os_error(ENOENT))?;
     set(rt, living, Mark::Alone, text)?;
     if let Some(dead) = dead {

@@ -15,19 +15,19 @@ pub struct NewPage {
     bytes: Block,
 }
 
-// Reads the front of a file: all its bytes, up to one more than a page has.
-fn read_front(rt: &HostRuntime, name: &str) -> io::Result<Vec<u8>> {
-    let mut front = Vec::new(rt.alloc());
+// Reads the front of a file: all its bytes, up to one more than a page has. There is room for all of them before the
+// first is read, so that a page is asked for at once: a pipe may drop what a smaller read leaves.
+fn read_front(rt: &HostRuntime, name: &str, front: &mut Vec<u8>) -> io::Result<usize> {
     File::open(rt, name)?
         .take(BLOCK as u64 + 1)
-        .read_to_end(&mut front)?;
-    Ok(front)
+        .read_to_end(front)
 }
 
 // The bytes of a page, from its file.
 fn read_file(rt: &HostRuntime, change: &Change, pad: bool) -> Result<NewPage, Stop> {
     let name = change.file.as_str();
-    let front = read_front(rt, name).map_err(|error| refuse(
+    let mut front = Vec::with_capacity(rt.alloc(), BLOCK + 1)?;
+    read_front(rt, name, &mut front).map_err(|error| refuse(
         rt,
         format_args!("{name} can't be read: {error}"),
     ))?;
