@@ -110,6 +110,9 @@ impl From<Unmade> for Stop {
 struct Search<'a> {
     heap: Global,
     stack: Vec<Task<'a>>,
+    // What mishaps made of the run that is looked at, on the way to the stack. It is kept, empty, from one look to the
+    // next, so that its room is asked for once and not at each look.
+    made: Vec<Task<'a>>,
     met: BTreeSet<Digest>,
     counts: Counts,
 }
@@ -149,12 +152,7 @@ impl<'a> Search<'a> {
     }
 
     // A disk dies at each of its reads at the beginning of what is next.
-    fn die_reading(
-        &mut self,
-        run: &Run<'a>,
-        side: Side,
-        runs: &mut Vec<Run<'a>>,
-    ) -> Result<(), Stop> {
+    fn die_reading(&mut self, run: &Run<'a>, side: Side) -> Result<(), Stop> {
         for read in 1..MOST_READS {
             let mut struck = run.copy(self.heap)?;
             let dies = struck
@@ -164,33 +162,34 @@ impl<'a> Search<'a> {
                 break;
             }
             bump(&mut self.counts.deaths);
-            runs.push(struck)?;
+            self.made.push(Task::Look(struck))?;
         }
         Ok(())
     }
 
-    fn die(&mut self, run: &Run<'a>, side: Side, runs: &mut Vec<Run<'a>>) -> Result<(), Stop> {
+    fn die(&mut self, run: &Run<'a>, side: Side) -> Result<(), Stop> {
         bump(&mut self.counts.deaths);
-        runs.push(self.struck(run, |run| run.die(side))?)?;
+        let struck = self.struck(run, |run| run.die(side))?;
+        self.made.push(Task::Look(struck))?;
         if run.may_die_reading() {
-            self.die_reading(run, side, runs)?;
+            self.die_reading(run, side)?;
         }
         Ok(())
     }
 
-    // All that a mishap can make of a run now.
-    fn mishaps(&mut self, run: &Run<'a>) -> Result<Vec<Run<'a>>, Stop> {
-        let mut runs = Vec::new(self.heap);
+    // Makes all that a mishap can make of a run now.
+    fn mishaps(&mut self, run: &Run<'a>) -> Result<(), Stop> {
         if run.may_cut() {
             bump(&mut self.counts.powers);
-            runs.push(self.struck(run, |run| run.cut())?)?;
+            let struck = self.struck(run, |run| run.cut())?;
+            self.made.push(Task::Look(struck))?;
         }
         if run.may_die() {
             for side in Side::BOTH {
-                self.die(run, side, &mut runs)?;
+                self.die(run, side)?;
             }
         }
-        Ok(runs)
+        Ok(())
     }
 
     // Whether a run at rest is met for the first time.
@@ -211,11 +210,9 @@ impl<'a> Search<'a> {
                 return Ok(());
             }
         }
-        let mishaps = self.mishaps(&run)?;
+        self.mishaps(&run)?;
         self.push(Task::GoOn(run))?;
-        for struck in mishaps {
-            self.push(Task::Look(struck))?;
-        }
+        self.stack.append(&mut self.made)?;
         Ok(())
     }
 
@@ -245,7 +242,7 @@ impl<'a> Search<'a> {
     fn go_through<W: FnMut(Counts)>(&mut self, script: &'a Script, mut watch: W) -> Result<(), Stop>
         requires { W.IsAlwaysCallable watch }
     {
-        let first = Run::new(self.heap, script)?;
+        let first = Run::of(self.heap, script)?;
         self.push(Task::Look(first))?;
         // No `while let`: nothing says how many worlds a script has, and a loop has to end.
         for _ in 0..u64::MAX {
@@ -275,6 +272,7 @@ fn search_through<W: FnMut(Counts)>(
     let mut search = Search {
         heap,
         stack: Vec::new(heap),
+        made: Vec::new(heap),
         met: BTreeSet::new(heap),
         counts: Counts::default(),
     };

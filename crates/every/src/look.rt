@@ -45,7 +45,7 @@ fn differing(first: &[u8], second: &[u8]) -> usize {
     blocks(first)
         .iter()
         .zip(blocks(second))
-        .filter(|(a, b)| a != b)
+        .filter(|(a, b)| !octets::same(*a, *b))
         .count()
 }
 
@@ -53,7 +53,7 @@ fn differing(first: &[u8], second: &[u8]) -> usize {
 pub fn replicas(world: &World, rest: bool) -> Result<(), Failure> {
     let first = world.disk(Side::First);
     let second = world.disk(Side::Second);
-    if !both_live(world) || first == second {
+    if !both_live(world) || octets::same(first, second) {
         return Ok(());
     }
     if rest {
@@ -68,11 +68,14 @@ pub fn replicas(world: &World, rest: bool) -> Result<(), Failure> {
 // Whether the pages that hold in a book stand on a disk.
 fn stands(book: &Book, disk: &[u8]) -> bool {
     let pages = book.pages();
-    let blocks = blocks(disk)
-        .iter()
-        .skip(Layout::PAGES as usize)
-        .take(pages.len());
-    pages.iter().map(|page| &page.holds).eq(blocks)
+    let Some(standing) = blocks(disk).get(Layout::PAGES as usize..) else {
+        return false;
+    };
+    pages.len() <= standing.len()
+        && pages
+            .iter()
+            .zip(standing)
+            .all(|(page, block)| octets::same(&page.holds, block))
 }
 
 // Whether the pages that hold in a book stand on each disk that lives.

@@ -30,11 +30,15 @@ impl From<Failure> for Halt {
     }
 }
 
-// A step that should be possible and that the world did not take, whatever the reason: also a want of memory in
-// a world's step is told as a step that was refused.
+// A step that should be possible and that the world did not take. Where it only had no memory for it, nothing failed.
 impl From<NotTaken> for Halt {
-    fn from(_why: NotTaken) -> Halt {
-        Halt::Failed(Failure::Refused)
+    fn from(why: NotTaken) -> Halt {
+        match why {
+            NotTaken::Memory => Halt::Memory,
+            NotTaken::NotNow | NotTaken::Outside | NotTaken::NoDisk => {
+                Halt::Failed(Failure::Refused)
+            }
+        }
     }
 }
 
@@ -77,7 +81,7 @@ pub struct Run<'a> {
     pub left: &'a [Command],
     // How many more times power may go, and how many more disks may die.
     pub powers: u8,
-    deaths: u8,
+    pub deaths: u8,
     // What the script has for this moment came. Not a phase of its own: a call and a recovery each have it.
     pub struck: bool,
     // How much of what happened was explained.
@@ -86,18 +90,30 @@ pub struct Run<'a> {
 }
 
 impl<'a> Run<'a> {
-    // Before the first command of a script that changes something.
-    pub fn new(heap: Global, script: &'a Script) -> Result<Run<'a>, Unmade> {
-        let mut run = Run {
-            world: World::new(heap, script.pages)?,
+    // Of a world at rest, with no command left: who has a script gives it its commands.
+    pub fn new(heap: Global, world: World, powers: u8, deaths: u8) -> Run<'a>
+        ensures strikes { (result.powers ≡ powers) × (result.deaths ≡ deaths) }
+        ensures phase { result.phase ≡ Rest }
+    {
+        Run {
+            world,
             phase: Phase::Rest,
-            left: script.commands.as_slice(),
-            powers: POWERS,
-            deaths: DEATHS,
+            left: &[],
+            powers,
+            deaths,
             struck: false,
             explained: 0,
             trail: Vec::new(heap),
-        };
+        }
+    }
+
+    // Before the first command of a script that changes something.
+    pub fn of(heap: Global, script: &'a Script) -> Result<Run<'a>, Unmade>
+        ensures { IfOk result (λ run. run.phase ≡ Rest) }
+    {
+        let world = World::new(heap, script.pages)?;
+        let mut run = Run::new(heap, world, POWERS, DEATHS);
+        run.left = script.commands.as_slice();
         run.settle();
         Ok(run)
     }
@@ -180,7 +196,9 @@ impl<'a> Run<'a> {
     }
 
     // Goes past commands that change nothing.
-    pub fn settle(&mut self) {
+    pub fn settle(&mut self)
+        ensures { self.new.phase ≡ self.old.phase }
+    {
         let idle = self
             .left
             .iter()

@@ -31,6 +31,7 @@ fn sum_of(page: &[u8]) -> u32 {
 impl Look {
     pub fn of(page: &[u8]) -> Look {
         match page {
+            [] => Look::Empty,
             _ if octets::is_empty(page) => Look::Empty,
             [first, rest @ ..] if rest.iter().all(|byte| byte == first) => Look::Filled(*first),
             _ => Look::Mixed(sum_of(page)),
@@ -75,6 +76,10 @@ impl fmt::Display for Writes {
     }
 }
 
+// An answer in words.
+#[derive(Clone, Copy, PartialEq, Eq, Debug)]
+pub struct AnswerShown(pub Seen);
+
 // What a call was answered, and by how many writes.
 #[derive(Clone, Copy, PartialEq, Eq, Debug)]
 pub struct Answered {
@@ -94,16 +99,22 @@ fn show_refusal<W: fmt::Write>(f: &mut fmt::Formatter<W>, refusal: Refusal) -> f
     }
 }
 
+impl fmt::Display for AnswerShown {
+    fn fmt<W: fmt::Write>(&self, f: &mut fmt::Formatter<W>) -> fmt::Result {
+        match self.0 {
+            Answer::Refused(refusal) => show_refusal(f, refusal),
+            Answer::Done => f.write_str("done"),
+            Answer::Page(look) => write!(f, "page {look}"),
+            Answer::Number(n) => write!(f, "number {n}"),
+        }
+    }
+}
+
 impl fmt::Display for Answered {
     fn fmt<W: fmt::Write>(&self, f: &mut fmt::Formatter<W>) -> fmt::Result {
-        match self.answer {
-            Answer::Refused(refusal) => show_refusal(f, refusal)?,
-            Answer::Done => f.write_str("done")?,
-            Answer::Page(look) => write!(f, "page {look}")?,
-            Answer::Number(n) => write!(f, "number {n}")?,
-        }
+        let answer = AnswerShown(self.answer);
         let writes = self.writes;
-        write!(f, "; {writes}")
+        write!(f, "{answer}; {writes}")
     }
 }
 

@@ -110,7 +110,7 @@ impl Play {
     }
 
     fn cut(&mut self, mark: Mark) -> Result<(), Wrong> {
-        self.world.cut()?;
+        self.world.cut().map_err(|_| Wrong::Memory)?;
         self.mark(mark)
     }
 
@@ -174,7 +174,10 @@ impl Play {
     }
 
     fn begin(&mut self, asked: &Asked) -> Result<u64, Wrong> {
-        self.world.begin(asked)?;
+        if !self.world.is_up() {
+            return Err(Wrong::PowerGone);
+        }
+        self.world.begin(asked).map_err(|_| Wrong::NoDisk)?;
         Ok(self.world.count())
     }
 
@@ -253,7 +256,12 @@ impl Play {
     }
 
     fn set(&mut self, block: u64, bytes: &Asked) -> Result<(), Wrong> {
-        self.world.overwrite(block, bytes.as_slice())?;
+        if !self.world.is_up() {
+            return Err(Wrong::PowerGone);
+        }
+        self.world
+            .overwrite(block, bytes.as_slice())
+            .map_err(|_| Wrong::SetOutside)?;
         self.mark(Mark::Set(block))
     }
 

@@ -18,6 +18,7 @@ impl fmt::Display for Line<'_> {
                 let pages = words.script.pages;
                 write!(f, "> pages {pages}\n< {words}")
             }
+            Mark::Command(_) if words.is_astray() => Ok(()),
             Mark::Command(_) => write!(f, "> {words}"),
             Mark::Wrote {
                 number,

@@ -108,10 +108,13 @@ pub fn rows_of(heap: Global, script: &Script, marks: &[Mark]) -> Result<Vec<Row>
         let Some(sort) = Sort::of(mark) else {
             continue;
         };
+        let words = Words { script, mark };
+        if words.is_astray() {
+            continue;
+        }
         if let Sort::Death(side) = sort {
             living = living.without(side);
         }
-        let words = Words { script, mark };
         let text = format!(in heap; "{words}")?;
         rows.push(Row { sort, living, text })?;
     }

@@ -13,6 +13,10 @@ pub struct Words<'a> {
     pub mark: Mark,
 }
 
+// What a write puts into its block, in words.
+#[derive(Clone, Copy, PartialEq, Eq, Debug)]
+pub struct KindShown(pub Write);
+
 // What a write of the journal puts into a block.
 fn show_kind<W: fmt::Write>(f: &mut fmt::Formatter<W>, block: u64, kind: Kind) -> fmt::Result {
     match kind {
@@ -25,22 +29,34 @@ fn show_kind<W: fmt::Write>(f: &mut fmt::Formatter<W>, block: u64, kind: Kind) -
             let entry = block.saturating_sub(Layout::LOG);
             write!(f, "log entry {entry}")
         }
-        Kind::Logged(slot) => {
+        Kind::Logged(entry) => {
             let page = block.saturating_sub(Layout::PAGES);
-            let entry = slot.place;
             write!(f, "page {page} from log entry {entry}")
         }
         Kind::Empty => f.write_str("empty"),
     }
 }
 
+impl fmt::Display for KindShown {
+    fn fmt<W: fmt::Write>(&self, f: &mut fmt::Formatter<W>) -> fmt::Result {
+        match self.0.kind {
+            WriteKind::Copied => f.write_str("copied"),
+            WriteKind::Journal(kind) => show_kind(f, self.0.block, kind),
+        }
+    }
+}
+
 // The block that is written, and what is put there.
 fn show_write<W: fmt::Write>(f: &mut fmt::Formatter<W>, write: Write) -> fmt::Result {
     let block = write.block;
-    write!(f, "{block:>3}  ")?;
-    match write.kind {
-        WriteKind::Copied => f.write_str("copied"),
-        WriteKind::Journal(kind) => show_kind(f, block, kind),
+    let kind = KindShown(write);
+    write!(f, "{block:>3}  {kind}")
+}
+
+impl Words<'_> {
+    // Whether the mark is of a command that the script doesn't have: of that nothing is shown.
+    pub(crate) fn is_astray(&self) -> bool {
+        matches!(self.mark, Mark::Command(at) if at >= self.script.commands.len())
     }
 }
 

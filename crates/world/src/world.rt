@@ -42,16 +42,14 @@ struct Progress {
 }
 
 impl Progress {
-    // A work that begins. Where it copies a block, that is what goes on the second disk first.
-    fn begin(work: Work) -> Progress
-        ensures { result ≡ record { work = work; done = 0; held = work.block } }
+    // A work begins in place of the one before. Where it copies a block, that is what goes on the second disk first.
+    fn begin(&mut self, work: Work)
+        ensures { self.new ≡ record { work = work; done = 0; held = work.block } }
     {
         let held = work.block;
-        Progress {
-            work,
-            done: 0,
-            held,
-        }
+        self.work = work;
+        self.done = 0;
+        self.held = held;
     }
 }
 
@@ -198,7 +196,7 @@ impl World {
         self.need_disk()?;
         let mut page = EMPTY;
         let turn = call::begin(&mut self.disks, self.pages, asked.as_slice(), &mut page)?;
-        self.progress = Progress::begin(turn.work);
+        self.progress.begin(turn.work);
         self.under = Some(Under {
             call: *asked,
             answer: turn.reply.with_page(page),
@@ -233,7 +231,9 @@ impl World {
             return Err(NotTaken::NotNow);
         }
         self.need_disk()?;
-        let under = self.under.ok_or(NotTaken::NotNow)?;
+        let Some(under) = self.under else {
+            return Err(NotTaken::NotNow);
+        };
         self.past.push(Event::Answered(under.call, under.answer))?;
         self.under = None;
         Ok(())
@@ -265,7 +265,7 @@ impl World {
         self.past.push(cut_event(self.under))?;
         self.up = false;
         self.under = None;
-        self.progress = Progress::begin(work);
+        self.progress.begin(work);
         Ok(())
     }
 
@@ -281,7 +281,7 @@ impl World {
         self.need_disk()?;
         let work = begin_recovery(&mut self.disks, self.pages)?;
         self.under = None;
-        self.progress = Progress::begin(work);
+        self.progress.begin(work);
         Ok(())
     }
 

@@ -20,7 +20,7 @@ unfolding together
 invariant_of-self-2 c =
     let old = c.args.self.now in
     record {
-      reached = λ t. rw c.begin-self.ensures (∥∥₁_map (old.reached t) (λ q.
+      reached = λ t. rw c.begin-2.ensures (∥∥₁_map (old.reached t) (λ q.
           starts _ _ old.progress.work _ _ _ _ _ c.in_ok-turn.turn c.args.asked.now _ _ _ c.begin.new.page _
           c.if-not-self.false (sym c.if-is_some.ensures) (sym c.in_ok-need_disk.ensures) (nothing_left old.progress.work _ c.if-not-is_idle.ensures)
           (ap call_of c.as_slice.ensures) c.with_page.ensures c.in_ok-turn.ensures q));

@@ -27,7 +27,7 @@ invariant_of-self-2 c =
     let old = c.args.self.now in
     let more : vec_items c.push.new.self ≡ vec_items old.past ++ (c.cut_event.result ∷ []) = search rules in
     record {
-      reached = λ t. rw c.begin-self.ensures (∥∥₁_map (old.reached t) (λ q.
+      reached = λ t. rw c.begin.ensures (∥∥₁_map (old.reached t) (λ q.
           stops _ _ old.progress.work _ _ _ _ _ c.in_ok-work.work _ _ _ c.cut_event.result
           c.if-not-self.false (sym c.in_ok-need_disk.ensures) c.in_ok-work.ensures refl more c.cut_event.ensures.means q));
     }

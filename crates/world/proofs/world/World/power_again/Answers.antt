@@ -16,6 +16,6 @@ unfolding together
 invariant_of-self-2 c =
     let old = c.args.self.now in
     record {
-      reached = λ t. rw c.begin-self.ensures (∥∥₁_map (old.reached t) (λ q.
+      reached = λ t. rw c.begin.ensures (∥∥₁_map (old.reached t) (λ q.
           stops_again _ _ old.progress.work _ _ _ _ _ c.in_ok-work.work _ _ c.if-self.false (sym c.in_ok-need_disk.ensures) c.in_ok-work.ensures refl q));
     }

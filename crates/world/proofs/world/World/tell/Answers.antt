@@ -1,5 +1,4 @@
-use Rattle.std.proofs.Common.{◌≡◌, [], ◌∷◌, ◌++◌, vec_items, sym, ap, ◌∙◌, rules}
-use Rattle.std.specs.Result.{result_ok}
+use Rattle.std.proofs.Common.{◌≡◌, [], ◌∷◌, ◌++◌, vec_items, sym, rules}
 use mathlib.Core.Logic.{∥∥₁_map}
 use Rattle.world.specs.declared.history.Event.TheVariants.{Answered}
 use Rattle.world.proofs.Stated.{nothing_left, past_kept, tells}
@@ -13,10 +12,10 @@ invariant_of-self c =
 pub invariant_of-self-2 : goal.invariant_of-self-2
 invariant_of-self-2 c =
     let old = c.args.self.now in
-    let under = c.in_ok-under.under in
+    let under = c.in-Some.under in
     let more : vec_items c.push.new.self ≡ vec_items old.past ++ (Answered under.call under.answer ∷ []) = search rules in
     record {
       reached = λ t. ∥∥₁_map (old.reached t) (λ q.
           tells _ _ old.progress.work _ _ _ _ under _ _ c.if-not-self.false (sym c.in_ok-need_disk.ensures) (nothing_left old.progress.work _ c.if-not-is_idle.ensures)
-          (c.ok_or.ensures.ok_part ∙ ap result_ok c.in_ok-under.was) more q);
+          c.in-Some.is more q);
     }
