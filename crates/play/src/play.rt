@@ -182,7 +182,9 @@ impl Play {
     }
 
     fn tell(&mut self) -> Result<Seen, Wrong> {
-        let under = self.world.under().ok_or(Wrong::NoDisk)?;
+        let Some(under) = self.world.under() else {
+            return Err(Wrong::NoDisk);
+        };
         self.world.tell()?;
         Ok(seen(&under.answer))
     }

@@ -43,13 +43,12 @@ struct Progress {
 
 impl Progress {
     // A work begins in place of the one before. Where it copies a block, that is what goes on the second disk first.
-    fn begin(&mut self, work: Work)
-        ensures { self.new ≡ record { work = work; done = 0; held = work.block } }
+    fn begin(&mut self, work: &Work)
+        ensures { self.new ≡ record { work = work.now; done = 0; held = work.now.block } }
     {
-        let held = work.block;
-        self.work = work;
+        self.work = *work;
         self.done = 0;
-        self.held = held;
+        self.held = work.block;
     }
 }
 
@@ -196,7 +195,7 @@ impl World {
         self.need_disk()?;
         let mut page = EMPTY;
         let turn = call::begin(&mut self.disks, self.pages, asked.as_slice(), &mut page)?;
-        self.progress.begin(turn.work);
+        self.progress.begin(&turn.work);
         self.under = Some(Under {
             call: *asked,
             answer: turn.reply.with_page(page),
@@ -265,7 +264,7 @@ impl World {
         self.past.push(cut_event(self.under))?;
         self.up = false;
         self.under = None;
-        self.progress.begin(work);
+        self.progress.begin(&work);
         Ok(())
     }
 
@@ -281,7 +280,7 @@ impl World {
         self.need_disk()?;
         let work = begin_recovery(&mut self.disks, self.pages)?;
         self.under = None;
-        self.progress.begin(work);
+        self.progress.begin(&work);
         Ok(())
     }
 
