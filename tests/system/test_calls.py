@@ -243,6 +243,19 @@ def test_change_of_many_pages(register):
     assert register.disks() == before
 
 
+def test_change_from_a_pipe_in_packets(register):
+    """A pipe that drops what a read leaves of a packet gives its page whole, and a short packet as it is."""
+    for content, pad, wanted in ((A, [], A), (A, ["--pad"], A), (A[:9], ["--pad"], A[:9].ljust(BLOCK, b"\0"))):
+        register.new_disks()
+        reading, writing = os.pipe2(os.O_DIRECT)
+        os.write(writing, content)
+        os.close(writing)
+        run = register.run("change", "first", "second", "1=/dev/fd/0", *pad, given=None, stdin=reading)
+        os.close(reading)
+        assert run.status == 0, run
+        check_book(register, [[EMPTY, wanted, EMPTY]])
+
+
 # How the disks stand, and what is written.
 
 
