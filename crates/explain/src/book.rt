@@ -97,7 +97,10 @@ impl Book {
 
     // Whether the answer to a call is the book's.
     pub fn answers(&self, asked: &Asked, told: &Told) -> bool {
-        self.answer(asked) == *told
+        match (self.answer(asked), told) {
+            (Answer::Page(page), Answer::Page(other)) => octets::same(&page, other),
+            (answer, told) => answer == *told,
+        }
     }
 
     // A page as it is to hold after a close; nothing changes where there is no such page, or no room.
