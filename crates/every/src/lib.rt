@@ -11,4 +11,6 @@ pub mod digest;
 pub mod explore;
 pub mod look;
 pub mod run;
+#[cfg(test)]
+mod tests;
 pub mod trail;

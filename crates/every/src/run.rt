@@ -262,7 +262,8 @@ impl<'a> Run<'a> {
         self.world.set_left(side, read.saturating_sub(1));
         let begun = match self.next_call() {
             Some(asked) => self.begin(&asked),
-            None => self.world.cut().map_err(Halt::from),
+            // Power that the world doesn't take kills no disk, also where it had no memory to note it.
+            None => self.world.cut().map_err(|_| Halt::Failed(Failure::Refused)),
         };
         match begun {
             Ok(()) if !self.world.is_alive(side) => {}
