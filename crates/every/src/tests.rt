@@ -5,16 +5,17 @@ use script::read::script;
 use std::process::Abort;
 use std::test::Fail;
 
-// Where no call is next power goes, and a disk that is to die at a read that recovery never comes to lives on. No number
-// of a read is refused.
+// Reads at which the first disk is to die where no call is next, and whether it does: power goes there, and what begins
+// has fewer reads than a hundred.
+const READS: [(u64, bool); 4] = [(0, true), (1, true), (100, false), (u64::MAX, false)];
+
 #[test]
-fn no_such_read(rt: HostRuntime) -> Result<(), Fail> {
+fn reads_to_die_at(rt: HostRuntime) -> Result<(), Fail> {
     let pages = script(rt.alloc(), "pages 1\n")?;
-    for read in [100, u64::MAX] {
+    for (read, dies) in READS {
         let mut run = Run::of(rt.alloc(), &pages)?;
-        let dies = run.die_reading(Side::First, read)?;
-        assert!(rt; !dies, "at read {read}");
-        assert!(rt; run.world.is_alive(Side::First));
+        assert_eq!(rt; run.die_reading(Side::First, read)?, dies);
+        assert_eq!(rt; run.world.is_alive(Side::First), !dies);
     }
     Ok(())
 }
