@@ -262,7 +262,7 @@ impl<'a> Run<'a> {
         self.world.set_left(side, read.saturating_sub(1));
         let begun = match self.next_call() {
             Some(asked) => self.begin(&asked),
-            // Where the world doesn't take it, whatever the reason, no death is told.
+            // Power goes. Where the world doesn't take that, for whatever reason, no death is told.
             None => self.world.cut().map_err(|_| Halt::Failed(Failure::Refused)),
         };
         match begun {
